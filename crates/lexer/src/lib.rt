@@ -1,0 +1,2 @@
+// Lines of a text, and the pieces of a line: words, numbers, signs. Knows nothing of items, names or files.
+pub mod token;
