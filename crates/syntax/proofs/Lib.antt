@@ -1,0 +1,5 @@
+pub mod Fuel
+pub mod Same
+pub mod Free
+pub mod Tree
+pub mod Runs
