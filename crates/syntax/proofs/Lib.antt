@@ -3,3 +3,4 @@ pub mod Same
 pub mod Free
 pub mod Tree
 pub mod Runs
+pub mod Flat
