@@ -4,3 +4,5 @@ pub mod Free
 pub mod Tree
 pub mod Runs
 pub mod Flat
+pub mod Room
+pub mod Items
