@@ -6,3 +6,4 @@ pub mod Runs
 pub mod Flat
 pub mod Room
 pub mod Items
+pub mod Places
