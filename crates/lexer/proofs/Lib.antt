@@ -1,3 +1,4 @@
+pub mod Looks
 pub mod Signs
 pub mod Steps
 pub mod Places

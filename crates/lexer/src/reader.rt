@@ -6,8 +6,9 @@ ghost use Prim.Native.Nat.{_-_, _<_, _≤_};
 ghost use lib.ListN.{length, getD, take, drop};
 ghost use Rattle.std.specs.Options.{Cases as BySome};
 ghost use Rattle.lexer.specs.Tokens.{letter, blank, left, piece};
-ghost use Rattle.lexer.specs.Seen.{NextAt};
+ghost use Rattle.lexer.specs.Seen.{NextAt, SeenSays};
 use crate::bytes::{is_blank, is_letter};
+use crate::token::{token_of, Token};
 
 // A piece of a line: a part of it, from a place to the place behind it.
 #[derive(Clone, Copy)]
@@ -89,5 +90,24 @@ impl<'a> Reader<'a> {
         let to = piece_end(line, from);
         self.at = to;
         Some(Piece { text: &line[from..to], from, to })
+    }
+}
+
+// What comes next in a line: a token and its place. At the end both places are the one looked from.
+#[derive(Clone, Copy)]
+pub struct Seen {
+    pub token: Token,
+    pub from: usize,
+    pub to: usize,
+}
+
+// The next piece from a place on, which stays to be read.
+pub fn peek(line: &[u32], at: usize) -> Seen
+    ensures { λ r. ⌜ SeenSays (now (line .entry)) «at» r ⌝ }
+{
+    let mut reader = Reader { line, at };
+    match reader.next() {
+        Some(p) => Seen { token: token_of(p.text), from: p.from, to: p.to },
+        None => Seen { token: Token::End, from: at, to: at },
     }
 }
