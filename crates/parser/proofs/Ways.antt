@@ -23,9 +23,11 @@ use Rattle.syntax.specs.Machine.{Frame as Waits, f-par, f-call, f-bound, f-body
 use Rattle.parser.specs.declared.turn.Bounds.{Bounds}
 use Rattle.parser.specs.declared.turn.Place.{Place}
 use Rattle.parser.specs.declared.turn.Next.{Next}
+use Rattle.parser.specs.declared.turn.Phase.{Phase}
 use Rattle.parser.specs.declared.turn.Turn.{Turn}
 use Rattle.parser.specs.declared.turn.Turn.the-variants.{Go, Won, Lost}
-use Rattle.parser.specs.Rows.{ops-of, frames-of, line-of, NextSays, Shown, Says, Went, Ended, Stopped, Does, after-let, after-name, after-dot, goes-to}
+use Rattle.parser.specs.Rows.{ops-of, frames-of, line-of, phase-is, Ready, NextSays, Shown, Says, Went, Ended, Stopped, Does, after-let, after-name, after-dot, goes-to}
+use Rattle.parser.proofs.Words.{frames-none}
 use Rattle.parser.proofs.Others.{not-let, not-if, not-in, not-then, not-else, not-open, not-close, not-comma, not-gets, not-dot, not-name, not-sign, not-digits}
 
 -- the places that a token has fit in words
@@ -59,6 +61,13 @@ onto-later b p q ws us vs F G r h l k e d =
     record { kept = d .kept ∙ k; says = says-by (line-of b ws) b (p .at) (q .at) vs _ _ r e h s }
 pub stops : (b : Bounds) (p : Place) (ws : List ℕ) (F : Step) (a : ℕ) → at-state b p (line-of b ws) ws F ≡ lost (left (line-of b ws) a) → p .at ≤ a → a ≤ b .len → Does b p ws ws F (Lost a)
 stops b p ws F a e h l = record { kept = refl; says = record { comes = e; onward = h; within = l } }
+pub moves : (k : ℕ) (b : Bounds) (p : Place) (ws : List ℕ) (F : Step) (m : Phase) → at-state b p (line-of b ws) ws F ≡ at-state b p (line-of b ws) ws (going (phase-is m)) → Ready k b p ws → Does b p ws ws F (Go m p)
+moves k b p ws F m e r = record { kept = refl; says = record { comes = e; onward = omega arith; within = r .at-in; fits = let h = r .room in omega arith } }
+pub wins : (k : ℕ) (b : Bounds) (p : Place) (ws : List ℕ) → p .depth ≡ 0 → Ready k b p ws → Does b p ws ws pop (Won p)
+wins k b p ws e r =
+    let line = line-of b ws in
+    let none : frames-of line (p .depth) ws ≡ [] = ap (λ d. frames-of line d ws) e ∙ frames-none line ws in
+    record { kept = refl; says = record { comes = ap (λ fs. pop (left line (p .at)) fs (ops-of line (b .base) (p .count) ws)) none; onward = omega arith; within = r .at-in; fits = let h = r .room in omega arith } }
 
 pick-t : {A : Type 0} (b : Bool) (x y : A) → b ≡ true → pick b x y ≡ x
 pick-t b x y e = ap (λ b. pick b x y) e

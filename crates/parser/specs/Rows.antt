@@ -143,7 +143,7 @@ pub record Ready (k : ℕ) (b : Bounds) (p : Place) (ws : List ℕ) : Type 0 whe
   pub at-in : p .at ≤ b .len
   pub line-in : b .len ≤ b .base
   pub room : b .base + 5 * p .count + 4 * p .depth + k ≤ length ws
-  pub few : p .count < 4294967000
+  pub few : p .count + k < 4294967295
   pub short : b .len < 4294967000
 -- a call that waits on top has few arguments
 abbrev pub Few : List Waits → Type 0
@@ -191,11 +191,11 @@ after-dot us fs c = names-it us (λ x vs. going (p-value 7) vs fs (c ++ (o-field
 -- a value goes to this frame
 abbrev pub goes-to : Waits → List Tok → List Waits → List Flat → State
 goes-to f us fs c = pop us (f ∷ fs) c
--- one operation more, and a value of a level is there; a frame waits for an expression, with one operation more or none
+-- one operation more, and a value of a level is there; a frame waits for what begins; it waits for an expression, behind one operation more
 abbrev pub puts : Flat → ℕ → List Tok → List Waits → List Flat → State
 puts o l us fs c = going (p-value l) us fs (c ++ (o ∷ []))
-abbrev pub waits : Waits → List Tok → List Waits → List Flat → State
-waits f us fs c = going p-begin us (f ∷ fs) c
+abbrev pub waits : Waits → Phase → List Tok → List Waits → List Flat → State
+waits f m us fs c = going (phase-is m) us (f ∷ fs) c
 abbrev pub puts-waits : Flat → Waits → List Tok → List Waits → List Flat → State
 puts-waits o f us fs c = going p-begin us (f ∷ fs) (c ++ (o ∷ []))
 abbrev pub takes : Phase → List Tok → List Waits → List Flat → State
