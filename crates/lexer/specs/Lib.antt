@@ -1,3 +1,5 @@
 pub mod Tokens
 pub mod Words
 pub mod Kinds
+pub mod Parts
+pub mod Seen
