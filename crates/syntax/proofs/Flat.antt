@@ -245,7 +245,7 @@ outcome-lost ts = refl
 pub outcome-start : (n : ℕ) (ts : List Tok) → 10 * length ts + 10 ≤ n → outcome (start ts) ≡ as-code (expr n ts)
 unfolding outcome
 outcome-start n ts h = flat-is n (effort (start ts)) ts h (omega arith)
--- exactly when
+-- what was read, from what the machine came to
 pub is-won : (n : ℕ) (ts us : List Tok) (c : List Op) → 10 * length ts + 10 ≤ n → outcome (start ts) ≡ won c us → (e : E) × (expr n ts ≡ it e us) × (c ≡ code e)
 is-won n ts us c h p = go (expr n ts) (sym (outcome-start n ts h) ∙ p)
   where

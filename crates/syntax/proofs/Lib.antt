@@ -6,3 +6,6 @@ pub mod Runs
 pub mod Flat
 pub mod Room
 pub mod Items
+pub mod Places
+pub mod Bare
+pub mod Blanks

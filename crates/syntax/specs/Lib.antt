@@ -1,3 +1,4 @@
 pub mod Grammar
 pub mod Code
 pub mod Machine
+pub mod Theorems
