@@ -1,0 +1,112 @@
+-- What the parser's words stand for. One row of words holds all:
+--   from 0           the line
+--   from base        the code, growing upwards, five words an operation: a tag and four numbers
+--   down from the end  the stack, growing downwards, four words a frame: a tag and three numbers
+--
+-- an operation's tag                 a frame's tag
+--   0 number, piece a b                0 brackets that began at a
+--   1 name, piece a b                  1 call that begins at operation a, with b arguments so far
+--   2 call, piece a b, c arguments     2 let that began at a, name piece b c: its value
+--   3 argument                         3 let that began at a: its body
+--   4 call ends at a                   4 if that began at a: its condition
+--   5 field, piece a b                 5 if that began at a: its first branch
+--   6 operator a                       6 if that began at a: its second branch
+--   7 condition                        any other: right side of operator a
+--   8 if that began at a
+--   9 bound name, piece a b
+--   10 let that began at a
+--   11 brackets from a to b
+--   12 file used, piece a b
+--   13 record or def named, piece a b
+--   14 kind or constant, piece a b
+--   15 field or parameter, pieces a b and c d
+--   16 result, piece a b
+--   17 body
+--   any other: not understood, from a to b
+-- An operator's number above 6 counts as 6.
+use mathlib.Core.Path.{_≡_}
+use mathlib.Core.Bool.{Bool, true, false}
+use mathlib.Core.List.{List, [], _∷_, _++_}
+use Prim.Native.Nat.{ℕ, zero, suc, _+_, _-_, _*_, _≤_}
+use lib.ListN.{length, take, drop}
+use lib.Dec.{eqb}
+use Rattle.base.specs.Base.{pick}
+use Rattle.lexer.specs.Tokens.{Tok, piece}
+use Rattle.lexer.specs.Kinds.{operator}
+use Rattle.lexer.specs.declared.token.Operator.{Operator}
+use Rattle.lexer.specs.declared.token.Operator.the-variants.{Plus, Minus, Times, Equal, Less, And, Or}
+use Rattle.syntax.specs.Code.{Op as Flat, o-num, o-name, o-call, o-arg, o-end, o-field, o-op, o-cond, o-if, o-bind, o-let, o-par, o-use, o-new, o-const, o-slot, o-result, o-body, o-bad}
+use Rattle.syntax.specs.Machine.{Frame as Waits, f-par, f-call, f-bound, f-body, f-cond, f-then, f-else, f-right}
+use Rattle.parser.specs.declared.code.Span.{Span}
+use Rattle.parser.specs.declared.code.Op.{Op}
+use Rattle.parser.specs.declared.code.Op.the-variants.{Number, Name, Call, Arg, End, Field, Sign, Cond, If, Bind, Let, Par, Use, New, Const, Slot, Result, Body, Bad}
+use Rattle.parser.specs.declared.stack.Frame.{Frame}
+use Rattle.parser.specs.declared.stack.Frame.the-variants.{Par as WaitPar, Call as WaitCall, Bound as WaitBound, Body as WaitBody, Cond as WaitCond, Then as WaitThen, Else as WaitElse, Right as WaitRight}
+
+-- the operator of a number
+abbrev pub sign-of : ℕ → Operator
+sign-of a = pick (eqb a 0) Plus (pick (eqb a 1) Minus (pick (eqb a 2) Times (pick (eqb a 3) Equal (pick (eqb a 4) Less (pick (eqb a 5) And Or)))))
+
+-- an operation by its words
+abbrev pub op-of : List ℕ → ℕ → ℕ → ℕ → ℕ → ℕ → Flat
+op-of line t a b c d =
+    pick (eqb t 0) (o-num (piece line a b)) (pick (eqb t 1) (o-name (piece line a b)) (pick (eqb t 2) (o-call (piece line a b) c) (pick (eqb t 3) o-arg (pick (eqb t 4) (o-end a) (pick (eqb t 5) (o-field (piece line a b))
+    (pick (eqb t 6) (o-op (operator (sign-of a))) (pick (eqb t 7) o-cond (pick (eqb t 8) (o-if a) (pick (eqb t 9) (o-bind (piece line a b)) (pick (eqb t 10) (o-let a) (pick (eqb t 11) (o-par a b)
+    (pick (eqb t 12) (o-use (piece line a b)) (pick (eqb t 13) (o-new (piece line a b)) (pick (eqb t 14) (o-const (piece line a b)) (pick (eqb t 15) (o-slot (record { name = piece line a b; ty = piece line c d }))
+    (pick (eqb t 16) (o-result (piece line a b)) (pick (eqb t 17) o-body (o-bad a b))))))))))))))))))
+abbrev pub ops : List ℕ → List ℕ → List Flat
+ops line [] = []
+ops line (t ∷ []) = []
+ops line (t ∷ a ∷ []) = []
+ops line (t ∷ a ∷ b ∷ []) = []
+ops line (t ∷ a ∷ b ∷ c ∷ []) = []
+ops line (t ∷ a ∷ b ∷ c ∷ d ∷ ws) = op-of line t a b c d ∷ ops line ws
+-- the n operations from a word on
+abbrev pub ops-of : List ℕ → ℕ → ℕ → List ℕ → List Flat
+ops-of line base n ws = ops line (drop base (take (base + 5 * n) ws))
+
+-- a frame by its words
+abbrev pub frame-of : List ℕ → ℕ → ℕ → ℕ → ℕ → Waits
+frame-of line t a b c = pick (eqb t 0) (f-par a) (pick (eqb t 1) (f-call a b) (pick (eqb t 2) (f-bound a (piece line b c)) (pick (eqb t 3) (f-body a) (pick (eqb t 4) (f-cond a) (pick (eqb t 5) (f-then a) (pick (eqb t 6) (f-else a) (f-right (operator (sign-of a)))))))))
+abbrev pub frames : List ℕ → List ℕ → List Waits
+frames line [] = []
+frames line (t ∷ []) = []
+frames line (t ∷ a ∷ []) = []
+frames line (t ∷ a ∷ b ∷ []) = []
+frames line (t ∷ a ∷ b ∷ c ∷ ws) = frame-of line t a b c ∷ frames line ws
+-- the stack of d frames at the row's end, the newest first
+abbrev pub frames-of : List ℕ → ℕ → List ℕ → List Waits
+frames-of line d ws = frames line (drop (length ws - 4 * d) ws)
+
+-- what the code's own types stand for
+abbrev pub span-of : List ℕ → Span → Tok
+span-of line s = piece line (s .from) (s .to)
+abbrev pub op-is : List ℕ → Op → Flat
+op-is line (Number s) = o-num (span-of line s)
+op-is line (Name s) = o-name (span-of line s)
+op-is line (Call s k) = o-call (span-of line s) k
+op-is line Arg = o-arg
+op-is line (End a) = o-end a
+op-is line (Field s) = o-field (span-of line s)
+op-is line (Sign o) = o-op (operator o)
+op-is line Cond = o-cond
+op-is line (If a) = o-if a
+op-is line (Bind s) = o-bind (span-of line s)
+op-is line (Let a) = o-let a
+op-is line (Par s) = o-par (s .from) (s .to)
+op-is line (Use s) = o-use (span-of line s)
+op-is line (New s) = o-new (span-of line s)
+op-is line (Const s) = o-const (span-of line s)
+op-is line (Slot x t) = o-slot (record { name = span-of line x; ty = span-of line t })
+op-is line (Result s) = o-result (span-of line s)
+op-is line Body = o-body
+op-is line (Bad s) = o-bad (s .from) (s .to)
+abbrev pub frame-is : List ℕ → Frame → Waits
+frame-is line (WaitPar a) = f-par a
+frame-is line (WaitCall p k) = f-call p k
+frame-is line (WaitBound a s) = f-bound a (span-of line s)
+frame-is line (WaitBody a) = f-body a
+frame-is line (WaitCond a) = f-cond a
+frame-is line (WaitThen a) = f-then a
+frame-is line (WaitElse a) = f-else a
+frame-is line (WaitRight o) = f-right (operator o)
