@@ -1,5 +1,5 @@
 pub mod Facts
 pub mod Looks
-pub mod Places
 pub mod Signs
 pub mod Steps
+pub mod Places

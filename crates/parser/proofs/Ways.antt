@@ -18,8 +18,8 @@ use Rattle.lexer.specs.declared.token.Operator.{Operator}
 use Rattle.lexer.specs.declared.token.Token.{Token}
 use Rattle.lexer.specs.declared.token.Token.the-variants.{Use, Kind, Rec, Def, Let, In, If, Then, Else, Num, Bool as TypeBool, Open, Close, Comma, Gets, Dot, Sign, Number, BadNumber, Name, Other, End}
 use Rattle.lexer.proofs.Facts.{Facts, facts, is-let, is-if, is-in, is-then, is-else, is-open, is-close, is-comma, is-gets, is-dot, is-named, is-digit, is-digits, op-in}
-use Rattle.syntax.specs.Code.{Op as Flat, o-num, o-name, o-call, o-arg, o-end, o-field, o-par, o-bind, o-cond}
-use Rattle.syntax.specs.Machine.{Frame as Waits, f-par, f-call, f-bound, f-body, f-cond, f-then, f-else, f-right, p-begin, p-atom, p-value, State, going, won, lost, names-it, eats, do-begin, do-let, do-if, do-call, do-atom, do-dot, do-op, do-value, pop, patch, base, lev, made}
+use Rattle.grammar.specs.Code.{Op as Flat, o-num, o-name, o-call, o-arg, o-end, o-field, o-par, o-bind, o-cond}
+use Rattle.grammar.specs.Machine.{Frame as Waits, f-par, f-call, f-bound, f-body, f-cond, f-then, f-else, f-right, p-begin, p-atom, p-value, State, going, won, lost, names-it, eats, do-begin, do-let, do-if, do-call, do-atom, do-dot, do-op, do-value, pop, patch, base, lev, made}
 use Rattle.parser.specs.declared.turn.Bounds.{Bounds}
 use Rattle.parser.specs.declared.turn.Place.{Place}
 use Rattle.parser.specs.declared.turn.Next.{Next}

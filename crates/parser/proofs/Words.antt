@@ -11,8 +11,8 @@ use borrow.Rule.Slice.PartMut.{putMid, midOf, postOf, same-len-mid}
 use Rattle.std.proofs.shelf.Lists.{drop-more, drop-set-lt, drop-set-add, take-set-le, length-take-le, getD-take, getD-drop, drop-append-le, drop-at, drop-drop}
 use Rattle.std.proofs.shelf.Parts.{take-putMid-below, take-putMid, drop-putMid}
 use Rattle.base.specs.Base.{pick}
-use Rattle.syntax.specs.Code.{Op as Flat, o-call}
-use Rattle.syntax.specs.Machine.{Frame as Waits, patch, counted}
+use Rattle.grammar.specs.Code.{Op as Flat, o-call}
+use Rattle.grammar.specs.Machine.{Frame as Waits, patch, counted}
 use Rattle.parser.specs.Rows.{op-of, ops, ops-of, frame-of, frames, frames-of}
 
 -- operations in a row, one behind another

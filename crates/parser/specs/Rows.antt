@@ -38,8 +38,8 @@ use Rattle.lexer.specs.Seen.{is-end}
 use Rattle.lexer.specs.declared.token.Token.{Token}
 use Rattle.lexer.specs.declared.token.Operator.{Operator}
 use Rattle.lexer.specs.declared.token.Operator.the-variants.{Plus, Minus, Times, Equal, Less, And, Or}
-use Rattle.syntax.specs.Code.{Op as Flat, o-num, o-name, o-call, o-arg, o-end, o-field, o-op, o-cond, o-if, o-bind, o-let, o-par, o-use, o-new, o-const, o-slot, o-result, o-body, o-bad}
-use Rattle.syntax.specs.Machine.{Frame as Waits, f-par, f-call, f-bound, f-body, f-cond, f-then, f-else, f-right, Phase as Stage, p-begin, p-atom, p-value, State, going, won, lost, names-it, eats, do-call, pop, step}
+use Rattle.grammar.specs.Code.{Op as Flat, o-num, o-name, o-call, o-arg, o-end, o-field, o-op, o-cond, o-if, o-bind, o-let, o-par, o-use, o-new, o-const, o-slot, o-result, o-body, o-bad}
+use Rattle.grammar.specs.Machine.{Frame as Waits, f-par, f-call, f-bound, f-body, f-cond, f-then, f-else, f-right, Phase as Stage, p-begin, p-atom, p-value, State, going, won, lost, names-it, eats, do-call, pop, step}
 use Rattle.parser.specs.declared.code.Span.{Span}
 use Rattle.parser.specs.declared.code.Op.{Op}
 use Rattle.parser.specs.declared.code.Op.the-variants.{Number, Name, Call, Arg, End, Field, Sign, Cond, If, Bind, Let, Par, Use, New, Const, Slot, Result, Body, Bad}

@@ -5,7 +5,7 @@ ghost use mathlib.Core.List.{List, [], _∷_, _++_};
 ghost use Prim.Native.Nat.{ℕ, _+_, _-_, _*_, _<_, _≤_};
 ghost use lib.ListN.{length, getD, take, drop};
 ghost use Rattle.lexer.specs.Kinds.{«level-of»};
-ghost use Rattle.syntax.specs.Machine.{«f-par», «f-call», «f-bound», «f-cond», «f-then», base, «do-begin», «do-atom», «do-call», «do-value», «do-dot», «do-op», pop, made};
+ghost use Rattle.grammar.specs.Machine.{«f-par», «f-call», «f-bound», «f-cond», «f-then», base, «do-begin», «do-atom», «do-call», «do-value», «do-dot», «do-op», pop, made};
 ghost use Rattle.parser.specs.Rows.{«ops-of», «frames-of», «op-is», «frame-is», «span-of», «line-of», NextSays, Ready, Few, Does, «after-let», «after-name», «after-dot», «goes-to», puts, waits, «puts-waits», takes};
 use lexer::reader::peek;
 use lexer::token::Operator;

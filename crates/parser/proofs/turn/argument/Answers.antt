@@ -4,8 +4,8 @@ use Prim.Native.Nat.{_+_}
 use native.Mathlib.Omega.{arith}
 use Rattle.lexer.specs.Tokens.{left}
 use Rattle.lexer.specs.declared.token.Token.the-variants.{Close, Comma}
-use Rattle.syntax.specs.Code.{o-end}
-use Rattle.syntax.specs.Machine.{going, p-value, patch}
+use Rattle.grammar.specs.Code.{o-end}
+use Rattle.grammar.specs.Machine.{going, p-value, patch}
 use Rattle.parser.specs.Rows.{ops-of, frames-of, span-of, line-of}
 use Rattle.parser.proofs.Ways.{saw, onto, onto-later, stops, arg-comma, arg-close, arg-no}
 use borrow.Author.Needs.{needs}

@@ -3,8 +3,8 @@ use mathlib.Core.List.{[], _∷_, _++_}
 use native.Mathlib.Omega.{arith}
 use Rattle.lexer.specs.Tokens.{left}
 use Rattle.lexer.specs.declared.token.Token.the-variants.{Close}
-use Rattle.syntax.specs.Code.{o-end}
-use Rattle.syntax.specs.Machine.{going, p-value}
+use Rattle.grammar.specs.Code.{o-end}
+use Rattle.grammar.specs.Machine.{going, p-value}
 use Rattle.parser.specs.Rows.{ops-of, frames-of, span-of, line-of}
 use Rattle.parser.proofs.Words.{ops-long}
 use Rattle.parser.proofs.Ways.{saw, onto, onto-later, call-closed, call-open}

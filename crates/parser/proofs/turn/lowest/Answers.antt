@@ -1,5 +1,5 @@
 use mathlib.Core.Path.{sym, ap, _∙_}
-use Rattle.syntax.specs.Machine.{base}
+use Rattle.grammar.specs.Machine.{base}
 use Rattle.parser.specs.Rows.{frames-of}
 use Rattle.parser.proofs.Words.{frames-none}
 use borrow.Author.Needs.{needs}

@@ -11,8 +11,8 @@ use lib.Dec.{eqb}
 use Rattle.base.specs.Base.{pick, opt, Word, same}
 use Rattle.lexer.specs.Tokens.{Tok, next, tail1, end-of}
 use Rattle.lexer.specs.Words.{op-at, compares, is-name, is-number, is-type, digits, k-let, k-in, k-if, k-then, k-else, k-use, k-kind, k-rec, k-def, t-lp, t-rp, t-comma, t-gets, t-dot}
-use Rattle.syntax.specs.Grammar.{E, Es, no, and-then, e-num, e-name, e-call, e-field, e-op, e-if, e-let, e-par, Got, it, bad, with1, eat, a-word, expr, begins, lets, ifs, level, more, fields, atom, calls, args, Field, Item, nothing, i-use, i-kind, i-rec, i-def, i-bad, names, field-list, params, ended, reads-use, reads-kind, reads-rec, reads-def, reads1, settled, item-of}
-use Rattle.syntax.specs.Theorems.{Piece-at, Wrong-place}
+use Rattle.grammar.specs.Grammar.{E, Es, no, and-then, e-num, e-name, e-call, e-field, e-op, e-if, e-let, e-par, Got, it, bad, with1, eat, a-word, expr, begins, lets, ifs, level, more, fields, atom, calls, args, Field, Item, nothing, i-use, i-kind, i-rec, i-def, i-bad, names, field-list, params, ended, reads-use, reads-kind, reads-rec, reads-def, reads1, settled, item-of}
+use Rattle.grammar.specs.Theorems.{Piece-at, Wrong-place}
 
 -- us is a tail of ts
 pub record Tail (ts us : List Tok) : Type 0 where

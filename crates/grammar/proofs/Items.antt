@@ -8,10 +8,10 @@ use lib.ListN.{length}
 use Rattle.base.specs.Base.{pick, same}
 use Rattle.lexer.specs.Tokens.{Tok, next, tail1}
 use Rattle.lexer.specs.Words.{is-name, is-type, t-lp, t-rp, t-comma, t-gets, k-use, k-kind, k-rec, k-def}
-use Rattle.syntax.specs.Grammar.{Field, Item, i-kind, i-rec, i-def, Got, it, bad, with1, eat, a-word, expr, names, field-list, params, ended, reads-use, reads-kind, reads-rec, reads-def, reads1, settled, item-of}
-use Rattle.syntax.proofs.Fuel.{Within, w-word, w-with, w-pick, w-it, w-bad, tail-most}
-use Rattle.syntax.proofs.Same.{s-with, s-pick, s-eat}
-use Rattle.syntax.proofs.Free.{an-expr, expr-free}
+use Rattle.grammar.specs.Grammar.{Field, Item, i-kind, i-rec, i-def, Got, it, bad, with1, eat, a-word, expr, names, field-list, params, ended, reads-use, reads-kind, reads-rec, reads-def, reads1, settled, item-of}
+use Rattle.grammar.proofs.Fuel.{Within, w-word, w-with, w-pick, w-it, w-bad, tail-most}
+use Rattle.grammar.proofs.Same.{s-with, s-pick, s-eat}
+use Rattle.grammar.proofs.Free.{an-expr, expr-free}
 
 abbrev pub b-names : (List Tok → Got (List Tok)) → List Tok → Got (List Tok)
 b-names f ts = with1 (a-word is-name ts) (λ x us. pick (same (next us) t-comma) (with1 (f (tail1 us)) (λ xs vs. it (x ∷ xs) vs)) (it (x ∷ []) us))

@@ -8,8 +8,8 @@ use lib.Dec.{eqb, leb}
 use Rattle.base.specs.Base.{pick, opt, Word, same}
 use Rattle.lexer.specs.Tokens.{Tok, next, tail1}
 use Rattle.lexer.specs.Words.{op-any, is-name, is-number, digits, k-let, k-in, k-if, k-then, k-else, t-lp, t-rp, t-comma, t-gets, t-dot}
-use Rattle.syntax.specs.Grammar.{E, Got, it, bad}
-use Rattle.syntax.specs.Code.{Op, o-num, o-name, o-call, o-arg, o-end, o-field, o-op, o-cond, o-if, o-bind, o-let, o-par, o-use, o-new, o-const, o-slot, o-result, o-body, o-bad, code}
+use Rattle.grammar.specs.Grammar.{E, Got, it, bad}
+use Rattle.grammar.specs.Code.{Op, o-num, o-name, o-call, o-arg, o-end, o-field, o-op, o-cond, o-if, o-bind, o-let, o-par, o-use, o-new, o-const, o-slot, o-result, o-body, o-bad, code}
 
 -- an operator's level; the level of what it makes
 abbrev pub lev : ℕ → ℕ

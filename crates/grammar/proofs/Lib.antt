@@ -7,3 +7,5 @@ pub mod Flat
 pub mod Room
 pub mod Items
 pub mod Places
+pub mod Bare
+pub mod Blanks

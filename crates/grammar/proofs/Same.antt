@@ -11,8 +11,8 @@ use borrow.Author.Tests.{eqb-true, eqb-false}
 use Rattle.base.specs.Base.{pick, opt, Word, same}
 use Rattle.lexer.specs.Tokens.{Tok, next, tail1}
 use Rattle.lexer.specs.Words.{op-at, compares, is-name, is-number, digits, k-let, k-in, k-if, k-then, k-else, t-lp, t-rp, t-comma, t-gets, t-dot}
-use Rattle.syntax.specs.Grammar.{E, Es, no, and-then, e-num, e-name, e-call, e-field, e-op, e-if, e-let, e-par, Got, it, bad, with1, eat, a-word, expr, begins, lets, ifs, level, more, fields, atom, calls, args}
-use Rattle.syntax.proofs.Fuel.{Within, w-word, tail-most, within-expr, within-level}
+use Rattle.grammar.specs.Grammar.{E, Es, no, and-then, e-num, e-name, e-call, e-field, e-op, e-if, e-let, e-par, Got, it, bad, with1, eat, a-word, expr, begins, lets, ifs, level, more, fields, atom, calls, args}
+use Rattle.grammar.proofs.Fuel.{Within, w-word, tail-most, within-expr, within-level}
 
 -- parts that are the same make the same
 pub s-with : {A C : Type 0} (m : ℕ) (g h : Got A) (f k : A → List Tok → Got C) → Within m g → g ≡ h → ((a : A) (us : List Tok) → length us ≤ m → f a us ≡ k a us) → with1 g f ≡ with1 h k

@@ -11,10 +11,10 @@ use borrow.Author.Tests.{eqb-true, eqb-false, ne-eqb, leb-true, leb-false}
 use Rattle.base.specs.Base.{pick, opt, or-else, when1, Word, same}
 use Rattle.lexer.specs.Tokens.{Tok, next, tail1}
 use Rattle.lexer.specs.Words.{op-at, compares, k-let, k-if, k-or, k-and, t-is, t-less, t-plus, t-minus, t-times, op-any}
-use Rattle.syntax.specs.Grammar.{E, Es, e-op, Got, it, with1, expr, lets, ifs, level, more, fields, atom, calls, args}
-use Rattle.syntax.specs.Machine.{lev}
-use Rattle.syntax.proofs.Fuel.{within-expr, within-level}
-use Rattle.syntax.proofs.Same.{b-lets, b-ifs, b-compare, b-level, b-more, b-fields, b-atom, b-calls, b-args, lets-same, ifs-same, level-same, more-same, fields-same, atom-same, args-same, same-expr, same-lets, same-ifs, same-level, same-more, same-fields, same-atom, same-calls, same-args}
+use Rattle.grammar.specs.Grammar.{E, Es, e-op, Got, it, with1, expr, lets, ifs, level, more, fields, atom, calls, args}
+use Rattle.grammar.specs.Machine.{lev}
+use Rattle.grammar.proofs.Fuel.{within-expr, within-level}
+use Rattle.grammar.proofs.Same.{b-lets, b-ifs, b-compare, b-level, b-more, b-fields, b-atom, b-calls, b-args, lets-same, ifs-same, level-same, more-same, fields-same, atom-same, args-same, same-expr, same-lets, same-ifs, same-level, same-more, same-fields, same-atom, same-calls, same-args}
 
 abbrev pub enough : List Tok → ℕ
 enough ts = 10 * length ts + 12

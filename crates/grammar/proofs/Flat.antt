@@ -11,13 +11,13 @@ use borrow.Author.Tests.{eqb-true}
 use Rattle.base.specs.Base.{pick, opt, Word, same}
 use Rattle.lexer.specs.Tokens.{Tok, next, tail1}
 use Rattle.lexer.specs.Words.{is-name, is-number, digits, k-let, k-in, k-if, k-then, k-else, t-lp, t-rp, t-comma, t-gets, t-dot, op-any}
-use Rattle.syntax.specs.Grammar.{E, Es, no, and-then, e-num, e-name, e-call, e-field, e-op, e-if, e-let, e-par, Got, it, bad, expr}
-use Rattle.syntax.specs.Code.{Op, o-num, o-name, o-call, o-arg, o-end, o-field, o-op, o-cond, o-if, o-bind, o-let, o-par, count, onto, ontos, code}
-use Rattle.syntax.specs.Machine.{lev, made, Frame, f-par, f-call, f-bound, f-body, f-cond, f-then, f-else, f-right, p-begin, p-atom, p-value, State, going, won, lost, base, patch, eats, names-it, do-begin, do-call, do-atom, pop, do-dot, do-op, do-value, step, run, start, as-code, effort, outcome}
-use Rattle.syntax.proofs.Fuel.{tail-most}
-use Rattle.syntax.proofs.Free.{lev-in}
-use Rattle.syntax.proofs.Tree.{Tree-Frame, in-par, in-call, in-bound, in-body, in-cond, in-then, in-else, right-of, at-begin, at-atom, at-value, Tree-State, tree-going, tree-won, tree-lost, tree-base, put-all, tree-eats, tree-word, tree-begin, tree-call, tree-atom, tree-pop, tree-value, tree-step}
-use Rattle.syntax.proofs.Runs.{tree-run, tree-start, as-tree, machine-is, tail-less, made-most, any-none}
+use Rattle.grammar.specs.Grammar.{E, Es, no, and-then, e-num, e-name, e-call, e-field, e-op, e-if, e-let, e-par, Got, it, bad, expr}
+use Rattle.grammar.specs.Code.{Op, o-num, o-name, o-call, o-arg, o-end, o-field, o-op, o-cond, o-if, o-bind, o-let, o-par, count, onto, ontos, code}
+use Rattle.grammar.specs.Machine.{lev, made, Frame, f-par, f-call, f-bound, f-body, f-cond, f-then, f-else, f-right, p-begin, p-atom, p-value, State, going, won, lost, base, patch, eats, names-it, do-begin, do-call, do-atom, pop, do-dot, do-op, do-value, step, run, start, as-code, effort, outcome}
+use Rattle.grammar.proofs.Fuel.{tail-most}
+use Rattle.grammar.proofs.Free.{lev-in}
+use Rattle.grammar.proofs.Tree.{Tree-Frame, in-par, in-call, in-bound, in-body, in-cond, in-then, in-else, right-of, at-begin, at-atom, at-value, Tree-State, tree-going, tree-won, tree-lost, tree-base, put-all, tree-eats, tree-word, tree-begin, tree-call, tree-atom, tree-pop, tree-value, tree-step}
+use Rattle.grammar.proofs.Runs.{tree-run, tree-start, as-tree, machine-is, tail-less, made-most, any-none}
 
 one : (b : E) (x : Op) (os : List Op) → onto b (x ∷ os) ≡ code b ++ (x ∷ os) → onto b (x ∷ []) ≡ code b ++ (x ∷ []) → onto b (x ∷ os) ≡ onto b (x ∷ []) ++ os
 one b x os p q = p ∙ sym (append-assoc (code b) (x ∷ []) os) ∙ ap (λ l. l ++ os) (sym q)
@@ -245,7 +245,7 @@ outcome-lost ts = refl
 pub outcome-start : (n : ℕ) (ts : List Tok) → 10 * length ts + 10 ≤ n → outcome (start ts) ≡ as-code (expr n ts)
 unfolding outcome
 outcome-start n ts h = flat-is n (effort (start ts)) ts h (omega arith)
--- exactly when
+-- what was read, from what the machine came to
 pub is-won : (n : ℕ) (ts us : List Tok) (c : List Op) → 10 * length ts + 10 ≤ n → outcome (start ts) ≡ won c us → (e : E) × (expr n ts ≡ it e us) × (c ≡ code e)
 is-won n ts us c h p = go (expr n ts) (sym (outcome-start n ts h) ∙ p)
   where

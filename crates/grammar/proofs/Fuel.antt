@@ -10,7 +10,7 @@ use lib.Dec.{eqb}
 use Rattle.base.specs.Base.{pick, opt, Word, same}
 use Rattle.lexer.specs.Tokens.{Tok, next, tail1}
 use Rattle.lexer.specs.Words.{op-at, compares, is-name, is-number, digits, k-let, k-in, k-if, k-then, k-else, t-lp, t-rp, t-comma, t-gets, t-dot}
-use Rattle.syntax.specs.Grammar.{E, Es, and-then, e-field, e-op, Got, it, bad, with1, eat, a-word, expr, begins, lets, ifs, level, more, fields, atom, calls, args}
+use Rattle.grammar.specs.Grammar.{E, Es, and-then, e-field, e-op, Got, it, bad, with1, eat, a-word, expr, begins, lets, ifs, level, more, fields, atom, calls, args}
 
 abbrev pub Fits : {A : Type 0} → ℕ → Got A → Type 0
 Fits m (it a us) = length us ≤ m

@@ -3,7 +3,7 @@
 use mathlib.Core.List.{List, [], _∷_, _++_}
 use Prim.Native.Nat.{ℕ, zero, suc, _+_}
 use Rattle.lexer.specs.Tokens.{Tok}
-use Rattle.syntax.specs.Grammar.{E, Es, no, and-then, e-num, e-name, e-call, e-field, e-op, e-if, e-let, e-par, Field, Item, nothing, i-use, i-kind, i-rec, i-def, i-bad}
+use Rattle.grammar.specs.Grammar.{E, Es, no, and-then, e-num, e-name, e-call, e-field, e-op, e-if, e-let, e-par, Field, Item, nothing, i-use, i-kind, i-rec, i-def, i-bad}
 
 pub data Op : Type 0 where
   -- of an expression: a number; a name; a call begins, with so many arguments; an argument is there; the call ends here; a field;

@@ -11,9 +11,9 @@ use borrow.Author.Tests.{eqb-true, eqb-false, eq-eqb, ne-eqb, leb-true, leb-fals
 use Rattle.base.specs.Base.{pick, opt, Word, same}
 use Rattle.lexer.specs.Tokens.{Tok, next, tail1}
 use Rattle.lexer.specs.Words.{is-name, is-number, digits, k-let, k-in, k-if, k-then, k-else, t-lp, t-rp, t-comma, t-gets, t-dot, op-any}
-use Rattle.syntax.specs.Grammar.{E, Es, no, and-then, e-num, e-name, e-call, e-field, e-op, e-if, e-let, e-par, Got, it, bad, with1, eat, a-word}
-use Rattle.syntax.specs.Machine.{lev, made}
-use Rattle.syntax.proofs.Free.{an-expr, a-let, an-if, a-level, a-fields, an-atom, a-call, an-args, expr-eq, let-eq, if-eq, fields-eq, atom-eq, call-eq, args-eq, next-level, level-step, level-last, after, next-eq, lev-in, At-level, op-level}
+use Rattle.grammar.specs.Grammar.{E, Es, no, and-then, e-num, e-name, e-call, e-field, e-op, e-if, e-let, e-par, Got, it, bad, with1, eat, a-word}
+use Rattle.grammar.specs.Machine.{lev, made}
+use Rattle.grammar.proofs.Free.{an-expr, a-let, an-if, a-level, a-fields, an-atom, a-call, an-args, expr-eq, let-eq, if-eq, fields-eq, atom-eq, call-eq, args-eq, next-level, level-step, level-last, after, next-eq, lev-in, At-level, op-level}
 
 -- what waits for a value
 pub data Tree-Frame : Type 0 where

@@ -11,14 +11,14 @@ use borrow.Author.Tests.{eqb-true, eqb-false, leb-true, leb-false}
 use Rattle.base.specs.Base.{pick, opt, Word, same}
 use Rattle.lexer.specs.Tokens.{Tok, next, tail1}
 use Rattle.lexer.specs.Words.{compares, is-name, is-number, digits, k-let, k-in, k-if, k-then, k-else, t-lp, t-rp, t-comma, t-gets, t-dot, op-any}
-use Rattle.syntax.specs.Grammar.{E, Got, it, bad, expr}
-use Rattle.syntax.specs.Machine.{lev, made}
-use Rattle.syntax.proofs.Fuel.{tail-most}
-use Rattle.syntax.proofs.Same.{op-at-none}
-use Rattle.syntax.proofs.Free.{expr-free, lev-in}
-use Rattle.syntax.proofs.Tree.{Tree-Frame, in-par, in-call, in-bound, in-body, in-cond, in-then, in-else, right-of, Tree-Phase, at-begin, at-atom, at-value, Tree-State, tree-going, tree-won, tree-lost, tree-base, tree-eats, tree-word, tree-begin, tree-call, tree-atom, tree-pop, tree-dot, tree-op, tree-value, tree-step, mean, Fine, step-mean}
+use Rattle.grammar.specs.Grammar.{E, Got, it, bad, expr}
+use Rattle.grammar.specs.Machine.{lev, made}
+use Rattle.grammar.proofs.Fuel.{tail-most}
+use Rattle.grammar.proofs.Same.{op-at-none}
+use Rattle.grammar.proofs.Free.{expr-free, lev-in}
+use Rattle.grammar.proofs.Tree.{Tree-Frame, in-par, in-call, in-bound, in-body, in-cond, in-then, in-else, right-of, Tree-Phase, at-begin, at-atom, at-value, Tree-State, tree-going, tree-won, tree-lost, tree-base, tree-eats, tree-word, tree-begin, tree-call, tree-atom, tree-pop, tree-dot, tree-op, tree-value, tree-step, mean, Fine, step-mean}
 
--- computed: tokens left, frames, and the mode
+-- a number that falls with every step: pieces left, frames, and the phase
 abbrev pub tree-weight : Tree-Phase → ℕ
 tree-weight at-begin = 1
 tree-weight at-atom = 0
@@ -112,7 +112,7 @@ ended (tree-lost ts) h = refl
 pub runs : (n : ℕ) (s : Tree-State) → Fine s → tree-effort s ≤ n → tree-run n s ≡ as-tree (mean s)
 runs zero s f h = ended s h
 runs (suc n) s f h = let g = step-good n s f h in runs n (tree-step s) (g .fine) (g .less) ∙ ap as-tree (step-mean s f)
--- the whole: what is read of tokens, in 9 steps a token and 2 more
+-- the whole: what is read of pieces, in 9 steps a piece and 2 more
 abbrev pub tree-start : List Tok → Tree-State
 tree-start ts = tree-going at-begin ts []
 pub machine-is : (n m : ℕ) (ts : List Tok) → 10 * length ts + 10 ≤ n → 9 * length ts + 2 ≤ m → tree-run m (tree-start ts) ≡ as-tree (expr n ts)

@@ -10,10 +10,10 @@ use lib.Dec.{eqb, leb}
 use Rattle.base.specs.Base.{pick, opt, Word, same}
 use Rattle.lexer.specs.Tokens.{Tok, next, tail1}
 use Rattle.lexer.specs.Words.{is-name, is-number, digits, k-let, k-in, k-if, k-then, k-else, t-lp, t-rp, t-comma, t-gets, t-dot, op-any}
-use Rattle.syntax.specs.Code.{Op, o-arg, o-end}
-use Rattle.syntax.specs.Machine.{lev, made, Frame, f-par, f-call, f-bound, f-body, f-cond, f-then, f-else, f-right, Phase, p-begin, p-atom, p-value, State, going, won, lost, base, patch, eats, names-it, pop, do-op, step, start}
-use Rattle.syntax.proofs.Fuel.{tail-most}
-use Rattle.syntax.proofs.Runs.{tail-less, any-none}
+use Rattle.grammar.specs.Code.{Op, o-arg, o-end}
+use Rattle.grammar.specs.Machine.{lev, made, Frame, f-par, f-call, f-bound, f-body, f-cond, f-then, f-else, f-right, Phase, p-begin, p-atom, p-value, State, going, won, lost, base, patch, eats, names-it, pop, do-op, step, start}
+use Rattle.grammar.proofs.Fuel.{tail-most}
+use Rattle.grammar.proofs.Runs.{tail-less, any-none}
 
 -- operations that frames will still put out with no piece of their own
 abbrev pub owed : List Frame → ℕ
