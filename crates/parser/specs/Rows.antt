@@ -38,13 +38,16 @@ use Rattle.lexer.specs.Seen.{is-end}
 use Rattle.lexer.specs.declared.token.Token.{Token}
 use Rattle.lexer.specs.declared.token.Operator.{Operator}
 use Rattle.lexer.specs.declared.token.Operator.the-variants.{Plus, Minus, Times, Equal, Less, And, Or}
-use Rattle.grammar.specs.Code.{Op as Flat, o-num, o-name, o-call, o-arg, o-end, o-field, o-op, o-cond, o-if, o-bind, o-let, o-par, o-use, o-new, o-const, o-slot, o-result, o-body, o-bad}
+use Rattle.grammar.specs.Grammar.{E, it, bad, expr}
+use Rattle.grammar.specs.Code.{code, Op as Flat, o-num, o-name, o-call, o-arg, o-end, o-field, o-op, o-cond, o-if, o-bind, o-let, o-par, o-use, o-new, o-const, o-slot, o-result, o-body, o-bad}
 use Rattle.grammar.specs.Machine.{Frame as Waits, f-par, f-call, f-bound, f-body, f-cond, f-then, f-else, f-right, Phase as Stage, p-begin, p-atom, p-value, State, going, won, lost, names-it, eats, do-call, pop, step}
 use Rattle.parser.specs.declared.code.Span.{Span}
 use Rattle.parser.specs.declared.code.Op.{Op}
 use Rattle.parser.specs.declared.code.Op.the-variants.{Number, Name, Call, Arg, End, Field, Sign, Cond, If, Bind, Let, Par, Use, New, Const, Slot, Result, Body, Bad}
 use Rattle.parser.specs.declared.stack.Frame.{Frame}
 use Rattle.parser.specs.declared.stack.Frame.the-variants.{Par as WaitPar, Call as WaitCall, Bound as WaitBound, Body as WaitBody, Cond as WaitCond, Then as WaitThen, Else as WaitElse, Right as WaitRight}
+use Rattle.parser.specs.declared.parse.Read.{Read}
+use Rattle.parser.specs.declared.parse.Read.the-variants.{It, Bad as BadAt}
 use Rattle.parser.specs.declared.turn.Bounds.{Bounds}
 use Rattle.parser.specs.declared.turn.Place.{Place}
 use Rattle.parser.specs.declared.turn.Next.{Next}
@@ -200,3 +203,19 @@ abbrev pub puts-waits : Flat → Waits → List Tok → List Waits → List Flat
 puts-waits o f us fs c = going p-begin us (f ∷ fs) (c ++ (o ∷ []))
 abbrev pub takes : Phase → List Tok → List Waits → List Flat → State
 takes m us fs c = step (going (phase-is m) us fs c)
+
+-- what was read from a place on is an expression, its code stands from base on, and the rest of the line is its rest
+pub record ReadIt (line : List ℕ) (len base from : ℕ) (vs : List ℕ) («at» count : ℕ) : Type 0 where
+  pub reads : (e : E) × (ops-of line base count vs ≡ code e) × ((m : ℕ) → 10 * length (left line from) + 10 ≤ m → expr m (left line from) ≡ it e (left line «at»))
+  pub onward : from ≤ «at»
+  pub within : «at» ≤ len
+  pub few : count ≤ length (left line from)
+  pub fits : base + 5 * count ≤ length vs
+-- no expression stands there: what is left at a place can't be
+pub record ReadBad (line : List ℕ) (len from «at» : ℕ) : Type 0 where
+  pub reads : (m : ℕ) → 10 * length (left line from) + 10 ≤ m → expr m (left line from) ≡ bad (left line «at»)
+  pub onward : from ≤ «at»
+  pub within : «at» ≤ len
+abbrev pub ReadSays : List ℕ → ℕ → ℕ → ℕ → List ℕ → Read → Type 0
+ReadSays line len base from vs (It «at» count) = ReadIt line len base from vs «at» count
+ReadSays line len base from vs (BadAt «at») = ReadBad line len from «at»
