@@ -1,3 +1,5 @@
+pub mod Cuts
+pub mod Ends
 pub mod Looks
 pub mod Signs
 pub mod Steps

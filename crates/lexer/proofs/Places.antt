@@ -22,7 +22,7 @@ no-note c l = ne-eqb c 35 (λ e. both-ways (letter 35) refl (ap letter (sym e) �
 abbrev pub part : List ℕ → ℕ → ℕ → Word
 part xs f i = take (i - f) (drop f xs)
 
-part-more : (xs : List ℕ) (f i : ℕ) → f ≤ i → i < length xs → part xs f i ++ (getD xs i 0 ∷ []) ≡ part xs f (i + 1)
+pub part-more : (xs : List ℕ) (f i : ℕ) → f ≤ i → i < length xs → part xs f i ++ (getD xs i 0 ∷ []) ≡ part xs f (i + 1)
 part-more xs f i h l =
     let e : i + 1 - f ≡ i - f + 1 = omega arith in
     let back : f + (i - f) ≡ i = omega arith in

@@ -3,3 +3,4 @@ pub mod Words
 pub mod Kinds
 pub mod Parts
 pub mod Seen
+pub mod Lines
