@@ -1,3 +1,5 @@
+pub mod Rises
+pub mod Covers
 pub mod Cuts
 pub mod Ends
 pub mod Looks

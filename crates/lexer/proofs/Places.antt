@@ -45,7 +45,7 @@ module _ (xs : List ℕ) (i : ℕ) (inside : i < length xs) where
       at-drop-more (toks (in-word (part xs f i) f) i) xs i 0 inside ∙ word-ends (part xs f i) f i (getD xs i 0) (drop (i + 1) xs) e ∙
       ap (λ ts. tok (part xs f i) f i ∷ ts) (sym (at-drop-more (toks gap i) xs i 0 inside))
 
-  one-long : getD xs i 0 ∷ [] ≡ part xs i (i + 1)
+  pub one-long : getD xs i 0 ∷ [] ≡ part xs i (i + 1)
   one-long =
       let z : i - i ≡ 0 = omega arith in
       ap (λ n. take n (drop i xs) ++ (getD xs i 0 ∷ [])) (sym z) ∙ part-more xs i i (omega arith) inside

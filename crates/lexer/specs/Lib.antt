@@ -4,3 +4,4 @@ pub mod Kinds
 pub mod Parts
 pub mod Seen
 pub mod Lines
+pub mod Theorems

@@ -2,4 +2,5 @@
 mod bytes;
 pub mod lines;
 pub mod reader;
+pub mod theorems;
 pub mod token;
