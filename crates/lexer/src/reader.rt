@@ -7,8 +7,10 @@ ghost use lib.ListN.{length, getD, take, drop};
 ghost use Rattle.std.specs.Options.{Cases as BySome};
 ghost use Rattle.lexer.specs.Tokens.{letter, blank, left, piece, «end-of»};
 ghost use Rattle.lexer.specs.Seen.{NextAt, SeenSays};
-use crate::bytes::{is_blank, is_letter};
-use crate::token::{token_of, Token};
+use crate::bytes::is_blank;
+use crate::bytes::is_letter;
+use crate::token::Token;
+use crate::token::token_of;
 
 // A piece of a line: a part of it, from a place to the place behind it.
 #[derive(Clone, Copy)]
@@ -89,7 +91,11 @@ impl<'a> Reader<'a> {
         }
         let to = piece_end(line, from);
         self.at = to;
-        Some(Piece { text: &line[from..to], from, to })
+        Some(Piece {
+            text: &line[from..to],
+            from,
+            to,
+        })
     }
 }
 
@@ -107,8 +113,16 @@ pub fn peek(line: &[u32], at: usize) -> Seen
 {
     let mut reader = Reader { line, at };
     match reader.next() {
-        Some(p) => Seen { token: token_of(p.text), from: p.from, to: p.to },
-        None => Seen { token: Token::End, from: at, to: at },
+        Some(p) => Seen {
+            token: token_of(p.text),
+            from: p.from,
+            to: p.to,
+        },
+        None => Seen {
+            token: Token::End,
+            from: at,
+            to: at,
+        },
     }
 }
 

@@ -1,10 +1,6 @@
-use mathlib.Core.Path.{_≡_, sym}
+use mathlib.Core.Path.{sym}
 use native.Mathlib.Omega.{arith}
-use mathlib.Core.List.{_∷_}
-use Prim.Native.Nat.{_+_}
-use lib.ListN.{drop}
-use Rattle.lexer.specs.Tokens.{tok, gap, toks}
-use Rattle.lexer.proofs.Places.{part, two-equal, one-equal, one-other}
+use Rattle.lexer.proofs.Places.{two-equal, one-equal, one-other}
 use Rattle.lexer.proofs.reader.piece_end.Needs as need
 use Rattle.lexer.proofs.reader.piece_end.Needs.{else-line-from-eq61·by·then-line-from-eq61·then-from-line·else-line-from-eq61-2, else-line-from-eq61·by·then-line-from-eq61·else-from-line, else-line-from-eq61·by·else-line-from-eq61}
 
@@ -25,9 +21,9 @@ returns-else-line-from-eq61 c =
       within = omega arith;
       onward = omega arith;
       reads =
-        elim (c .else-line-from-eq61 .came)
-        [ else-line-from-eq61·by·then-line-from-eq61·then-from-line·else-line-from-eq61-2 w ↦ one-equal xs i (c .pre .within) (c .pre .not-blank) (c .pre .no-note) l (w .if-line-from-eq61 .taken) (λ _. w .if-line-from-eq61-2 .left)
-        | else-line-from-eq61·by·then-line-from-eq61·else-from-line w ↦ one-equal xs i (c .pre .within) (c .pre .not-blank) (c .pre .no-note) l (w .if-line-from-eq61 .taken) (λ h _. absurd (omega (arith, w .if-from-line .left)))
-        | else-line-from-eq61·by·else-line-from-eq61 w ↦ one-other xs i (c .pre .within) (c .pre .not-blank) (c .pre .no-note) l (w .if-line-from-eq61 .left)
-        ];
+          elim (c .else-line-from-eq61 .came) [
+            | else-line-from-eq61·by·then-line-from-eq61·then-from-line·else-line-from-eq61-2 w ↦ one-equal xs i (c .pre .within) (c .pre .not-blank) (c .pre .no-note) l (w .if-line-from-eq61 .taken) (λ _. w .if-line-from-eq61-2 .left)
+            | else-line-from-eq61·by·then-line-from-eq61·else-from-line w ↦ one-equal xs i (c .pre .within) (c .pre .not-blank) (c .pre .no-note) l (w .if-line-from-eq61 .taken) (λ h _. absurd (omega (arith, w .if-from-line .left)))
+            | else-line-from-eq61·by·else-line-from-eq61 w ↦ one-other xs i (c .pre .within) (c .pre .not-blank) (c .pre .no-note) l (w .if-line-from-eq61 .left)
+          ];
     }

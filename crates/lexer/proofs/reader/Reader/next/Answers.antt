@@ -1,5 +1,4 @@
-use mathlib.Core.Path.{_≡_, refl, _∙_}
-use mathlib.Core.List.{[]}
+use mathlib.Core.Path.{refl, _∙_}
 use native.Mathlib.Omega.{arith}
 use Rattle.std.proofs.shelf.Lists.{at-drop-all}
 use Rattle.lexer.specs.Tokens.{gap, toks, left}
@@ -16,11 +15,11 @@ returns-then-from-line c =
       line = refl;
       within = omega arith;
       reads =
-        told .same ∙
-        elim (c .then-from-line .came)
-        [ then-from-line·by·then-from-line w ↦ at-drop-all (toks gap i) xs i (w .if-from-line .taken)
-        | then-from-line·by·else-from-line·then-line-from-eq35 w ↦ note-at xs i (w .if-from-line .left) (told .stops (w .if-from-line .left)) (w .if-line-from-eq35 .taken)
-        ];
+          told .same ∙
+          elim (c .then-from-line .came) [
+            | then-from-line·by·then-from-line w ↦ at-drop-all (toks gap i) xs i (w .if-from-line .taken)
+            | then-from-line·by·else-from-line·then-line-from-eq35 w ↦ note-at xs i (w .if-from-line .left) (told .stops (w .if-from-line .left)) (w .if-line-from-eq35 .taken)
+          ];
       text = tt;
       behind = tt;
     }
