@@ -12,6 +12,11 @@ use crate::bytes::is_letter;
 use crate::token::Token;
 use crate::token::token_of;
 
+// The byte that begins a note, which goes on to the line's end.
+const NOTE: u32 = 35;
+// The byte =, which makes one piece with a second one.
+const EQUALS: u32 = 61;
+
 // A piece of a line: a part of it, from a place to the place behind it.
 #[derive(Clone, Copy)]
 pub struct Piece<'a> {
@@ -67,7 +72,7 @@ fn piece_end(line: &[u32], from: usize) -> usize
 {
     if is_letter(line[from]) {
         word_end(line, from)
-    } else if line[from] == 61 && from + 1 < line.len() && line[from + 1] == 61 {
+    } else if line[from] == EQUALS && from + 1 < line.len() && line[from + 1] == EQUALS {
         from + 2
     } else {
         from + 1
@@ -85,7 +90,7 @@ impl<'a> Reader<'a> {
     {
         let line = self.line;
         let from = blanks_end(line, self.at);
-        if from >= line.len() || line[from] == 35 {
+        if from >= line.len() || line[from] == NOTE {
             self.at = line.len();
             return None;
         }
