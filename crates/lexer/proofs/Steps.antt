@@ -1,21 +1,20 @@
 -- What one byte does to the pieces that are left.
-use mathlib.Core.Path.{_≡_, refl, sym, ap, _∙_}
+use mathlib.Core.Path.{_≡_, refl, ap, _∙_}
 use mathlib.Core.Bool.{Bool, true, false}
 use mathlib.Core.List.{List, [], _∷_, _++_}
-use Prim.Native.Nat.{ℕ, _+_, _-_, _≤_, _<_}
+use Prim.Native.Nat.{ℕ, _+_}
 use lib.Dec.{eqb}
-use lib.ListN.{length, getD, take, drop}
 use Rattle.base.specs.Base.{pick, Word}
-use Rattle.lexer.specs.Tokens.{Tok, tok, Mode, gap, in-word, equals, note, letter, blank, Turn, turn, fresh, turns, toks}
+use Rattle.lexer.specs.Tokens.{Tok, tok, gap, in-word, equals, note, letter, blank, Turn, turn, fresh, toks}
 
 pub skip-blank : (at c : ℕ) (cs : List ℕ) → blank c ≡ true → toks gap at (c ∷ cs) ≡ toks gap (at + 1) cs
 skip-blank at c cs e = simp e
 
 -- a byte by its four tests, so that a proof goes by cases
-abbrev by : List Tok → ℕ → ℕ → Bool → Bool → Bool → Bool → Turn
+abbrev pub by : List Tok → ℕ → ℕ → Bool → Bool → Bool → Bool → Turn
 by o at c b n l e = pick b (turn o gap) (pick n (turn o note) (pick l (turn o (in-word (c ∷ []) at)) (pick e (turn o (equals at)) (turn (o ++ (tok (c ∷ []) at (at + 1) ∷ [])) gap))))
 
-abbrev after : Turn → ℕ → List ℕ → List Tok
+abbrev pub after : Turn → ℕ → List ℕ → List Tok
 after t at cs = t .out ++ toks (t .mode) (at + 1) cs
 
 first-by : (t : Tok) (at c : ℕ) (cs : List ℕ) (b n l e : Bool) → after (by (t ∷ []) at c b n l e) at cs ≡ t ∷ after (by [] at c b n l e) at cs

@@ -1,0 +1,4 @@
+pub mod Taken
+pub mod Coded
+pub mod Listing
+pub mod Progress
