@@ -8,7 +8,7 @@ use lib.ListN.{length, getD, take, drop, set, length-set, length-drop, length-ap
 use lib.Dec.{eqb}
 use borrow.Author.Tests.{ne-eqb}
 use borrow.Rule.Slice.PartMut.{putMid, midOf, postOf, same-len-mid}
-use Rattle.std.proofs.shelf.Lists.{drop-more, drop-set-lt, drop-set-add, take-set-le, length-take-le, getD-take, getD-drop, drop-append-le, drop-at, drop-drop}
+use Rattle.std.proofs.shelf.Lists.{drop-more, drop-set-lt, drop-set-add, take-set-le, length-take-le, getD-take, getD-drop, drop-append-le, take-take, take-append-drop, drop-at, drop-drop}
 use Rattle.std.proofs.shelf.Parts.{take-putMid-below, take-putMid, drop-putMid}
 use Rattle.base.specs.Base.{pick}
 use Rattle.grammar.specs.Code.{Op as Flat, o-call}
@@ -54,6 +54,18 @@ frames-none line ws = go (frames-of line 0 ws) (frames-long line 0 ws (omega ari
     go : (os : List Waits) → length os ≡ 0 → os ≡ []
     go [] e = refl
     go (o ∷ os) e = absurd (omega arith)
+
+-- the code from one word on is that of its first operations and that behind them
+pub ops-join : (line : List ℕ) (base m n : ℕ) (ws : List ℕ) → base + 5 * (m + n) ≤ length ws → ops-of line base (m + n) ws ≡ ops-of line base m ws ++ ops-of line (base + 5 * m) n ws
+ops-join line base m n ws h =
+    let i = base + 5 * m in
+    let k = i + 5 * n in
+    let same : base + 5 * (m + n) ≡ k = omega arith in
+    let t : take i (take k ws) ≡ take i ws = take-take i k ws (omega arith) in
+    let l = length-take-le i ws (omega arith) in
+    let cut : take k ws ≡ take i ws ++ drop i (take k ws) = sym (take-append-drop i (take k ws)) ∙ ap (λ l. l ++ drop i (take k ws)) t in
+    ap (λ k. ops line (drop base (take k ws))) same ∙ ap (λ l. ops line (drop base l)) cut ∙ ap (ops line) (drop-append-le base (take i ws) (drop i (take k ws)) (omega arith)) ∙
+    ops-append line m (drop base (take i ws)) (drop i (take k ws)) (code-length base m ws (omega arith))
 
 -- the code and the stack are as they were where their words are
 pub same-ops : (line : List ℕ) (base n : ℕ) (ws vs : List ℕ) → take (base + 5 * n) vs ≡ take (base + 5 * n) ws → ops-of line base n vs ≡ ops-of line base n ws
@@ -128,6 +140,23 @@ four-on xs i h =
     let d2 : drop (i + 2) xs ≡ getD xs (i + 2) 0 ∷ drop (i + 3) xs = drop-more xs (i + 2) 0 (omega arith) ∙ ap (λ n. getD xs (i + 2) 0 ∷ drop n xs) three in
     let d1 : drop (i + 1) xs ≡ getD xs (i + 1) 0 ∷ drop (i + 2) xs = drop-more xs (i + 1) 0 (omega arith) ∙ ap (λ n. getD xs (i + 1) 0 ∷ drop n xs) two in
     drop-more xs i 0 (omega arith) ∙ ap (λ l. getD xs i 0 ∷ l) (d1 ∙ ap (λ l. getD xs (i + 1) 0 ∷ l) (d2 ∙ ap (λ l. getD xs (i + 2) 0 ∷ l) d3))
+five-on : (xs : List ℕ) (i : ℕ) → i + 5 ≤ length xs → drop i xs ≡ getD xs i 0 ∷ getD xs (i + 1) 0 ∷ getD xs (i + 2) 0 ∷ getD xs (i + 3) 0 ∷ getD xs (i + 4) 0 ∷ drop (i + 5) xs
+five-on xs i h =
+    let five : i + 4 + 1 ≡ i + 5 = omega arith in
+    four-on xs i (omega arith) ∙ ap (λ l. getD xs i 0 ∷ getD xs (i + 1) 0 ∷ getD xs (i + 2) 0 ∷ getD xs (i + 3) 0 ∷ l) (drop-more xs (i + 4) 0 (omega arith) ∙ ap (λ n. getD xs (i + 4) 0 ∷ drop n xs) five)
+-- the n operations from a word on are the first of them, by its words, and those behind it
+pub op-next : (line : List ℕ) (base n : ℕ) (ws : List ℕ) → base + 5 * n ≤ length ws → 0 < n → ops-of line base n ws ≡ op-of line (getD ws base 0) (getD ws (base + 1) 0) (getD ws (base + 2) 0) (getD ws (base + 3) 0) (getD ws (base + 4) 0) ∷ ops-of line (base + 5) (n - 1) ws
+op-next line base n ws h p =
+    let k = base + 5 * n in
+    let vs = take k ws in
+    let long = length-take-le k ws h in
+    let g0 = getD-take k ws base 0 (omega arith) in
+    let g1 = getD-take k ws (base + 1) 0 (omega arith) in
+    let g2 = getD-take k ws (base + 2) 0 (omega arith) in
+    let g3 = getD-take k ws (base + 3) 0 (omega arith) in
+    let g4 = getD-take k ws (base + 4) 0 (omega arith) in
+    let e : k ≡ base + 5 + 5 * (n - 1) = omega arith in
+    ap (ops line) (five-on vs base (omega arith)) ∙ (λ j. op-of line (g0 j) (g1 j) (g2 j) (g3 j) (g4 j) ∷ ops line (drop (base + 5) (take (e j) ws)))
 pub newest-is : (line ws : List ℕ) (d : ℕ) → 0 < d → 4 * d ≤ length ws → frames-of line d ws ≡ frame-of line (getD ws (length ws - 4 * d) 0) (getD ws (length ws - 4 * d + 1) 0) (getD ws (length ws - 4 * d + 2) 0) (getD ws (length ws - 4 * d + 3) 0) ∷ frames-of line (d - 1) ws
 newest-is line ws d p h =
     let i = length ws - 4 * d in

@@ -18,6 +18,12 @@ use crate::stack::Frame;
 use crate::stack::newest;
 use crate::stack::push;
 
+// Levels of a value: 0 let and if, 1 or, 2 and, 3 one comparison, 4 sums, 5 products, 6 fields, 7 the smallest.
+const WHOLE: u32 = 0;
+const COMPARED: u32 = 3;
+const FIELDS: u32 = 6;
+const SMALLEST: u32 = 7;
+
 // Where the line ends, and where the code begins.
 #[derive(Clone, Copy)]
 pub struct Bounds {
@@ -56,6 +62,7 @@ pub enum Turn {
     Lost(usize),
 }
 
+// The next piece from a place on.
 fn look(words: &[u32], len: usize, at: usize) -> Next
     requires { ⌜ len ≤ length (now words) ⌝ ∗ ⌜ len < 4294967000 ⌝ ∗ ⌜ «at» ≤ len ⌝ }
     ensures { λ r. ⌜ NextSays len (now (words .entry)) «at» r ⌝ }
@@ -132,7 +139,7 @@ fn atom(words: &mut [u32], b: Bounds, p: Place) -> Turn
     let q = Place { at: s.span.to as usize, depth: p.depth, count: p.count };
     match s.token {
         Token::Open => wait(words, b, q, Frame::Par(s.span.from), Phase::Begin),
-        Token::Number => put(words, b, q, Op::Number(s.span), 7),
+        Token::Number => put(words, b, q, Op::Number(s.span), SMALLEST),
         Token::Name => named(words, b, q, s.span),
         _ => Turn::Lost(p.at),
     }
@@ -146,7 +153,7 @@ fn named(words: &mut [u32], b: Bounds, p: Place, f: Span) -> Turn
     let s = look(words, b.len, p.at);
     match s.token {
         Token::Open => call(words, b, Place { at: s.span.to as usize, depth: p.depth, count: p.count }, f),
-        _ => put(words, b, p, Op::Name(f), 7),
+        _ => put(words, b, p, Op::Name(f), SMALLEST),
     }
 }
 
@@ -160,7 +167,7 @@ fn call(words: &mut [u32], b: Bounds, p: Place, f: Span) -> Turn
         Token::Close => {
             emit(words, b.base, p.count, Op::Call(f, 0));
             let q = Place { at: s.span.to as usize, depth: p.depth, count: p.count + 1 };
-            put(words, b, q, Op::End(s.span.to), 7)
+            put(words, b, q, Op::End(s.span.to), SMALLEST)
         }
         _ => put_wait(words, b, p, Op::Call(f, 0), Frame::Call(p.count as u32, 0)),
     }
@@ -183,7 +190,7 @@ fn makes(o: Operator) -> u32
     ensures { λ r. ⌜ r ≡ made («level-of» o) ⌝ }
 {
     let l = level(o);
-    if l == 3 { 3 } else { l + 1 }
+    if l == COMPARED { COMPARED } else { l + 1 }
 }
 
 // The level at which what is being read began.
@@ -208,7 +215,7 @@ fn dot(words: &mut [u32], b: Bounds, p: Place) -> Turn
     let s = look(words, b.len, p.at);
     match s.token {
         Token::Dot => field(words, b, Place { at: s.span.to as usize, depth: p.depth, count: p.count }),
-        _ => Turn::Go(Phase::Value(6), p),
+        _ => Turn::Go(Phase::Value(FIELDS), p),
     }
 }
 
@@ -219,7 +226,7 @@ fn field(words: &mut [u32], b: Bounds, p: Place) -> Turn
 {
     let s = look(words, b.len, p.at);
     match s.token {
-        Token::Name => put(words, b, Place { at: s.span.to as usize, depth: p.depth, count: p.count }, Op::Field(s.span), 7),
+        Token::Name => put(words, b, Place { at: s.span.to as usize, depth: p.depth, count: p.count }, Op::Field(s.span), SMALLEST),
         _ => Turn::Lost(p.at),
     }
 }
@@ -247,7 +254,7 @@ fn close(words: &mut [u32], b: Bounds, p: Place, n: u32) -> Turn
     let s = look(words, b.len, p.at);
     let q = Place { at: s.span.to as usize, depth: p.depth, count: p.count };
     match s.token {
-        Token::Close => put(words, b, q, Op::Par(Span { from: n, to: s.span.to }), 7),
+        Token::Close => put(words, b, q, Op::Par(Span { from: n, to: s.span.to }), SMALLEST),
         _ => Turn::Lost(p.at),
     }
 }
@@ -268,7 +275,7 @@ fn argument(words: &mut [u32], b: Bounds, p: Place, f: u32, k: u32) -> Turn
             emit(words, b.base, p.count, Op::Arg);
             patch_count(words, b.base, p.count + 1, f as usize, k + 1);
             let q = Place { at: behind, depth: p.depth, count: p.count + 1 };
-            put(words, b, q, Op::End(s.span.to), 7)
+            put(words, b, q, Op::End(s.span.to), SMALLEST)
         }
         _ => Turn::Lost(p.at),
     }
@@ -325,10 +332,10 @@ fn deliver(words: &mut [u32], b: Bounds, p: Place) -> Turn
         Frame::Par(n) => close(words, b, q, n),
         Frame::Call(f, k) => argument(words, b, q, f, k),
         Frame::Bound(n, x) => bound(words, b, q, n, x),
-        Frame::Body(n) => put(words, b, q, Op::Let(n), 0),
+        Frame::Body(n) => put(words, b, q, Op::Let(n), WHOLE),
         Frame::Cond(n) => condition(words, b, q, n),
         Frame::Then(n) => branch(words, b, q, n),
-        Frame::Else(n) => put(words, b, q, Op::If(n), 0),
+        Frame::Else(n) => put(words, b, q, Op::If(n), WHOLE),
         Frame::Right(o) => put(words, b, q, Op::Sign(o), makes(o)),
     }
 }
@@ -342,7 +349,7 @@ fn value(words: &mut [u32], b: Bounds, p: Place, l: u32) -> Turn
         return deliver(words, b, p);
     }
     let j = l - 1;
-    if j == 6 {
+    if j == FIELDS {
         return dot(words, b, p);
     }
     operation(words, b, p, j)

@@ -15,8 +15,8 @@ returns-then-l-lowest c =
     let fs = frames-of line (p .depth) ws in
     let co = ops-of line (b .base) (p .count) ws in
     onto b p _ ws _ _ _ _ (omega arith) (value-low (c .args .l) us fs co (c .lowest .result) (c .lowest .ensures line) (c .if-l-lowest .taken)) (c .deliver .ensures)
-pub returns-then-j-eq6 : need.returns-then-j-eq6
-returns-then-j-eq6 c =
+pub returns-then-j-eq-FIELDS : need.returns-then-j-eq-FIELDS
+returns-then-j-eq-FIELDS c =
     let b = c .args .b in
     let p = c .args .p in
     let ws = c .args .words .now in
@@ -24,7 +24,7 @@ returns-then-j-eq6 c =
     let us = left line (p .at) in
     let fs = frames-of line (p .depth) ws in
     let co = ops-of line (b .base) (p .count) ws in
-    onto b p _ ws _ _ _ _ (omega arith) (value-dot (c .args .l) us fs co (c .lowest .result) (c .lowest .ensures line) (c .if-l-lowest .left) (c .if-j-eq6 .taken)) (c .dot .ensures)
+    onto b p _ ws _ _ _ _ (omega arith) (value-dot (c .args .l) us fs co (c .lowest .result) (c .lowest .ensures line) (c .if-l-lowest .left) (c .if-j-eq-FIELDS .taken)) (c .dot .ensures)
 pub returns : need.returns
 returns c =
     let b = c .args .b in
@@ -34,4 +34,4 @@ returns c =
     let us = left line (p .at) in
     let fs = frames-of line (p .depth) ws in
     let co = ops-of line (b .base) (p .count) ws in
-    onto b p _ ws _ _ _ _ (omega arith) (value-op (c .args .l) us fs co (c .lowest .result) (c .lowest .ensures line) (c .if-l-lowest .left) (c .if-j-eq6 .left)) (c .operation .ensures)
+    onto b p _ ws _ _ _ _ (omega arith) (value-op (c .args .l) us fs co (c .lowest .result) (c .lowest .ensures line) (c .if-l-lowest .left) (c .if-j-eq-FIELDS .left)) (c .operation .ensures)
