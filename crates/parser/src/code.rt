@@ -147,7 +147,13 @@ pub fn op_at(words: &[u32], base: usize, i: usize) -> Op
     ensures { λ r. ⌜ ((line : List ℕ) → «op-is» line r ≡ «op-of» line (getD (now (words .entry)) (base + 5 * i) 0) (getD (now (words .entry)) (base + 5 * i + 1) 0) (getD (now (words .entry)) (base + 5 * i + 2) 0) (getD (now (words .entry)) (base + 5 * i + 3) 0) (getD (now (words .entry)) (base + 5 * i + 4) 0)) ⌝ }
 {
     let j = base + 5 * i;
-    unpack(words[j], words[j + 1], words[j + 2], words[j + 3], words[j + 4])
+    unpack(
+        words[j],
+        words[j + 1],
+        words[j + 2],
+        words[j + 3],
+        words[j + 4],
+    )
 }
 
 // The call that begins at operation p, if one does, has k arguments.

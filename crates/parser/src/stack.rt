@@ -5,10 +5,10 @@ ghost use mathlib.Core.List.{List, [], _∷_, _++_};
 ghost use Prim.Native.Nat.{ℕ, _+_, _*_, _-_, _<_, _≤_};
 ghost use lib.ListN.{length, getD, take, drop};
 ghost use Rattle.parser.specs.Rows.{«frame-of», frames, «frames-of», «frame-is», «ops-of»};
-use lexer::token::Operator;
 use crate::code::Span;
 use crate::code::number_of;
 use crate::code::sign;
+use lexer::token::Operator;
 
 // What waits for a value: brackets that began here; a call, where in the code it begins and how many arguments it has so far;
 // a let that began here, its name's value and its body; an if that began here, its condition and its branches; an operator's right side.
