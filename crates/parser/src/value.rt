@@ -162,17 +162,12 @@ fn close(words: &mut [u32], b: Bounds, p: Place, n: u32) -> Turn
         at: s.span.to as usize,
         ..p
     };
+    let all = Span {
+        from: n,
+        to: s.span.to,
+    };
     match s.token {
-        Token::Close => put(
-            words,
-            b,
-            q,
-            Op::Par(Span {
-                from: n,
-                to: s.span.to,
-            }),
-            SMALLEST,
-        ),
+        Token::Close => put(words, b, q, Op::Par(all), SMALLEST),
         _ => Turn::Lost(p.at),
     }
 }
@@ -186,10 +181,7 @@ fn argument(words: &mut [u32], b: Bounds, p: Place, f: u32, k: u32) -> Turn
     let behind = s.span.to as usize;
     match s.token {
         Token::Comma => {
-            let q = Place {
-                at: behind,
-                ..p
-            };
+            let q = Place { at: behind, ..p };
             put_wait(words, b, q, Op::Arg, Frame::Call(f, k + 1))
         }
         Token::Close => {
@@ -222,7 +214,7 @@ fn bound(words: &mut [u32], b: Bounds, p: Place, n: u32, x: Span) -> Turn
     }
 }
 
-// A value is the condition of the if that began at a place; its first branch.
+// A value is the condition of the if that began at a place.
 fn condition(words: &mut [u32], b: Bounds, p: Place, n: u32) -> Turn
     requires { ⌜ Ready 24 b p (now words) ⌝ }
     ensures { λ r. ⌜ Does b p (now (words .entry)) (now (words .exit)) («goes-to» («f-cond» n)) r ⌝ }
@@ -238,6 +230,7 @@ fn condition(words: &mut [u32], b: Bounds, p: Place, n: u32) -> Turn
     }
 }
 
+// A value is the first branch of the if that began at a place.
 fn branch(words: &mut [u32], b: Bounds, p: Place, n: u32) -> Turn
     requires { ⌜ Ready 24 b p (now words) ⌝ }
     ensures { λ r. ⌜ Does b p (now (words .entry)) (now (words .exit)) («goes-to» («f-then» n)) r ⌝ }
