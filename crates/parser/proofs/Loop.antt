@@ -2,26 +2,24 @@
 use mathlib.Core.Path.{_≡_, refl, sym, ap, subst, _∙_}
 use mathlib.Core.Bool.{Bool, true, false}
 use mathlib.Core.List.{List, [], _∷_, _++_}
-use Prim.Native.Nat.{ℕ, zero, suc, _+_, _-_, _*_, _≤_, _<_}
+use Prim.Native.Nat.{ℕ, _+_, _-_, _*_, _≤_, _<_}
 use native.Mathlib.Omega.{arith}
 use lib.ListN.{length, take, drop, length-drop, length-append}
 use lib.Dec.{eqb}
 use Rattle.std.proofs.shelf.Lists.{length-take-le}
 use Rattle.base.specs.Base.{pick}
 use Rattle.lexer.specs.Tokens.{Tok, tok, Mode, gap, in-word, equals, note, letter, blank, Turn as Piece-Turn, fresh, turn, turns, last1, toks, left}
-use Rattle.grammar.specs.Grammar.{E, it, bad, expr}
-use Rattle.grammar.specs.Code.{Op as Flat, code}
-use Rattle.grammar.specs.Machine.{Frame as Waits, f-par, f-call, f-bound, f-body, f-cond, f-then, f-else, f-right, State, going, won, lost, step, start, effort, weight, outcome, p-begin}
+use Rattle.grammar.specs.Machine.{Frame as Waits, f-par, f-call, f-bound, f-body, f-cond, f-then, f-else, f-right, State, going, won, step, start, effort, weight, outcome, p-begin}
 use Rattle.grammar.proofs.Flat.{step-less, outcome-step, outcome-won, outcome-lost, is-won, is-lost}
 use Rattle.grammar.proofs.Same.{same-expr}
-use Rattle.grammar.proofs.Room.{Room, Calls, owed, step-room, start-room, won-few, frames-few, ops-few}
+use Rattle.grammar.proofs.Room.{Room, Calls, step-room, start-room, won-few, frames-few, ops-few}
 use Rattle.parser.specs.declared.turn.Bounds.{Bounds}
 use Rattle.parser.specs.declared.turn.Place.{Place}
 use Rattle.parser.specs.declared.turn.Phase.{Phase}
 use Rattle.parser.specs.declared.turn.Phase.the-variants.{Begin}
 use Rattle.parser.specs.declared.turn.Turn.{Turn}
 use Rattle.parser.specs.declared.turn.Turn.the-variants.{Go, Won, Lost}
-use Rattle.parser.specs.Rows.{ops-of, frames-of, line-of, phase-is, Ready, Few, Says, Went, Ended, Stopped, Does, takes, ReadIt, ReadBad}
+use Rattle.parser.specs.Rows.{ops-of, frames-of, line-of, phase-is, Ready, Few, Says, Does, takes, ReadIt, ReadBad}
 use Rattle.parser.proofs.Words.{ops-long, frames-long, ops-none, frames-none}
 use Rattle.parser.proofs.Ways.{same-line, at-state}
 

@@ -1,7 +1,7 @@
 -- What a token isn't, as tests on it.
 use mathlib.Core.Path.{_≡_, refl}
-use mathlib.Core.Bool.{Bool, true, false}
-use mathlib.Core.Option.{Option, some, none}
+use mathlib.Core.Bool.{false}
+use mathlib.Core.Option.{none}
 use Prim.Native.Nat.{ℕ}
 use Rattle.lexer.specs.declared.token.Operator.{Operator}
 use Rattle.lexer.specs.declared.token.Token.{Token}

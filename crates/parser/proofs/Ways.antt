@@ -2,31 +2,31 @@
 use mathlib.Core.Path.{_≡_, refl, sym, ap, subst, _∙_}
 use mathlib.Core.Bool.{Bool, true, false}
 use mathlib.Core.List.{List, [], _∷_, _++_, append-assoc}
-use mathlib.Core.Option.{Option, some, none}
-use Prim.Native.Nat.{ℕ, zero, suc, _+_, _-_, _*_, _≤_, _<_}
+use mathlib.Core.Option.{Option, none}
+use Prim.Native.Nat.{ℕ, zero, suc, _+_, _-_, _≤_, _<_}
 use native.Mathlib.Omega.{arith}
-use lib.ListN.{length, take, drop}
+use lib.ListN.{length, take}
 use lib.Dec.{eqb, leb}
 use borrow.Author.Tests.{eq-eqb, ne-eqb, le-leb, lt-leb}
-use Rattle.std.proofs.shelf.Lists.{take-take, length-take-le}
+use Rattle.std.proofs.shelf.Lists.{take-take}
 use Rattle.base.specs.Base.{pick, opt, Word, same}
 use Rattle.lexer.specs.Tokens.{Tok, left, next, tail1}
-use Rattle.lexer.specs.Words.{k-let, k-in, k-if, k-then, k-else, t-lp, t-rp, t-comma, t-gets, t-dot, is-name, is-number, digits, op-any}
+use Rattle.lexer.specs.Words.{k-let, k-in, k-if, k-then, k-else, t-lp, t-rp, t-comma, t-gets, t-dot, is-name, is-number, digits}
 use Rattle.lexer.specs.Kinds.{operator, level-of, token-of}
 use Rattle.lexer.specs.Seen.{is-end, Stands, StandsIf}
 use Rattle.lexer.specs.declared.token.Operator.{Operator}
 use Rattle.lexer.specs.declared.token.Token.{Token}
-use Rattle.lexer.specs.declared.token.Token.the-variants.{Use, Kind, Rec, Def, Let, In, If, Then, Else, Num, Bool as TypeBool, Open, Close, Comma, Gets, Dot, Sign, Number, BadNumber, Name, Other, End}
-use Rattle.lexer.proofs.Facts.{Facts, facts, is-let, is-if, is-in, is-then, is-else, is-open, is-close, is-comma, is-gets, is-dot, is-named, is-digit, is-digits, op-in}
+use Rattle.lexer.specs.declared.token.Token.the-variants.{Let, In, If, Then, Else, Open, Close, Comma, Gets, Dot, Sign, Number, Name}
+use Rattle.lexer.proofs.Facts.{Facts, facts, is-digit}
 use Rattle.grammar.specs.Code.{Op as Flat, o-num, o-name, o-call, o-arg, o-end, o-field, o-par, o-bind, o-cond}
-use Rattle.grammar.specs.Machine.{Frame as Waits, f-par, f-call, f-bound, f-body, f-cond, f-then, f-else, f-right, p-begin, p-atom, p-value, State, going, won, lost, names-it, eats, do-begin, do-let, do-if, do-call, do-atom, do-dot, do-op, do-value, pop, patch, base, lev, made}
+use Rattle.grammar.specs.Machine.{Frame as Waits, f-par, f-call, f-bound, f-body, f-cond, f-then, f-else, f-right, p-begin, p-atom, p-value, State, going, lost, names-it, eats, do-begin, do-call, do-atom, do-dot, do-op, do-value, pop, patch, base}
 use Rattle.parser.specs.declared.turn.Bounds.{Bounds}
 use Rattle.parser.specs.declared.turn.Place.{Place}
 use Rattle.parser.specs.declared.turn.Next.{Next}
 use Rattle.parser.specs.declared.turn.Phase.{Phase}
 use Rattle.parser.specs.declared.turn.Turn.{Turn}
 use Rattle.parser.specs.declared.turn.Turn.the-variants.{Go, Won, Lost}
-use Rattle.parser.specs.Rows.{ops-of, frames-of, line-of, phase-is, Ready, NextSays, Shown, Says, Went, Ended, Stopped, Does, after-let, after-name, after-dot, goes-to}
+use Rattle.parser.specs.Rows.{ops-of, frames-of, line-of, phase-is, Ready, NextSays, Shown, Says, Does, after-let, after-name, after-dot, goes-to}
 use Rattle.parser.proofs.Words.{frames-none}
 use Rattle.parser.proofs.Others.{not-let, not-if, not-in, not-then, not-else, not-open, not-close, not-comma, not-gets, not-dot, not-name, not-sign, not-digits}
 

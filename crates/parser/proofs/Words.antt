@@ -1,17 +1,17 @@
 -- Rows of words as operations and as frames: what a write leaves, and what a read finds.
-use mathlib.Core.Path.{_≡_, refl, sym, ap, subst, _∙_}
+use mathlib.Core.Path.{_≡_, refl, sym, ap, _∙_}
 use mathlib.Core.Bool.{Bool, true, false}
-use mathlib.Core.List.{List, [], _∷_, _++_, append-assoc}
+use mathlib.Core.List.{List, [], _∷_, _++_}
 use Prim.Native.Nat.{ℕ, zero, suc, _+_, _-_, _*_, _≤_, _<_}
 use native.Mathlib.Omega.{arith}
-use lib.ListN.{length, getD, take, drop, set, length-set, length-drop, length-append}
+use lib.ListN.{length, getD, take, drop, set, length-set, length-drop}
 use lib.Dec.{eqb}
 use borrow.Author.Tests.{ne-eqb}
 use borrow.Rule.Slice.PartMut.{putMid, midOf, postOf, same-len-mid}
 use Rattle.std.proofs.shelf.Lists.{drop-more, drop-set-lt, drop-set-add, take-set-le, length-take-le, getD-take, getD-drop, drop-append-le, take-take, take-append-drop, drop-at, drop-drop}
 use Rattle.std.proofs.shelf.Parts.{take-putMid-below, take-putMid, drop-putMid}
 use Rattle.base.specs.Base.{pick}
-use Rattle.grammar.specs.Code.{Op as Flat, o-call}
+use Rattle.grammar.specs.Code.{Op as Flat}
 use Rattle.grammar.specs.Machine.{Frame as Waits, patch, counted}
 use Rattle.parser.specs.Rows.{op-of, ops, ops-of, frame-of, frames, frames-of}
 

@@ -3,7 +3,7 @@ ghost use denote.Ref.{now};
 ghost use mathlib.Core.Path.{_≡_};
 ghost use mathlib.Core.List.{List, [], _∷_, _++_};
 ghost use Prim.Native.Nat.{ℕ, _+_, _*_, _<_, _≤_};
-ghost use lib.ListN.{length, getD, take, drop};
+ghost use lib.ListN.{length, getD, take};
 ghost use Rattle.lexer.specs.Kinds.{operator};
 ghost use Rattle.grammar.specs.Machine.{patch};
 ghost use Rattle.parser.specs.Rows.{«sign-of», «op-of», ops, «ops-of», «op-is», «frames-of»};

@@ -1,7 +1,7 @@
 // An expression from a place of the line on, as flat code, with no call of itself.
 ghost use denote.Ref.{now};
 ghost use mathlib.Core.Path.{_≡_};
-ghost use Prim.Native.Nat.{ℕ, _+_, _*_, _<_, _≤_};
+ghost use Prim.Native.Nat.{_+_, _*_, _<_, _≤_};
 ghost use lib.ListN.{length, take};
 ghost use Rattle.parser.specs.Rows.{«frames-of», «line-of», Ready, Few, Does, takes, ReadSays};
 use crate::begin::atom;

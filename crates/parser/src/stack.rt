@@ -1,10 +1,10 @@
 // The stack in words: four words a frame, from the row's end downwards.
 ghost use denote.Ref.{now};
 ghost use mathlib.Core.Path.{_≡_};
-ghost use mathlib.Core.List.{List, [], _∷_, _++_};
+ghost use mathlib.Core.List.{List, [], _∷_};
 ghost use Prim.Native.Nat.{ℕ, _+_, _*_, _-_, _<_, _≤_};
-ghost use lib.ListN.{length, getD, take, drop};
-ghost use Rattle.parser.specs.Rows.{«frame-of», frames, «frames-of», «frame-is», «ops-of»};
+ghost use lib.ListN.{length, take};
+ghost use Rattle.parser.specs.Rows.{«frame-of», frames, «frames-of», «frame-is»};
 use crate::code::Span;
 use crate::code::number_of;
 use crate::code::sign;

@@ -4,7 +4,6 @@ use Rattle.lexer.specs.Tokens.{left}
 use Rattle.lexer.specs.declared.token.Token.the-variants.{Open, Number, Name}
 use Rattle.parser.specs.Rows.{ops-of, frames-of, span-of, line-of}
 use Rattle.parser.proofs.Ways.{saw, onto, stops, atom-open, atom-number, atom-name, atom-lost}
-use borrow.Author.Needs.{needs}
 use Rattle.parser.proofs.begin.atom.Needs as need
 
 pub returns-in-Open : need.returns-in-Open

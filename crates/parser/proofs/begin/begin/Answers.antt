@@ -4,7 +4,6 @@ use Rattle.lexer.specs.declared.token.Token.the-variants.{Let, If}
 use Rattle.parser.specs.declared.turn.Phase.the-variants.{Atom as Phase-Atom}
 use Rattle.parser.specs.Rows.{ops-of, frames-of, span-of, line-of}
 use Rattle.parser.proofs.Ways.{saw, onto, moves, begin-let, begin-if, begin-other}
-use borrow.Author.Needs.{needs}
 use Rattle.parser.proofs.begin.begin.Needs as need
 
 pub returns-in-Let : need.returns-in-Let

@@ -8,7 +8,6 @@ use Rattle.grammar.specs.Machine.{going, p-value}
 use Rattle.parser.specs.Rows.{ops-of, frames-of, span-of, line-of}
 use Rattle.parser.proofs.Words.{ops-long}
 use Rattle.parser.proofs.Ways.{saw, onto, onto-later, call-closed, call-open}
-use borrow.Author.Needs.{needs}
 use Rattle.parser.proofs.begin.call.Needs as need
 
 pub returns-in-Close : need.returns-in-Close

@@ -4,7 +4,6 @@ use Rattle.lexer.specs.Tokens.{left}
 use Rattle.lexer.specs.declared.token.Token.the-variants.{Gets, Name}
 use Rattle.parser.specs.Rows.{ops-of, frames-of, span-of, line-of}
 use Rattle.parser.proofs.Ways.{saw, onto, stops, let-no-name, let-no-gets, let-goes}
-use borrow.Author.Needs.{needs}
 use Rattle.parser.proofs.begin.name_bound.Needs as need
 
 pub returns-in-rest : need.returns-in-rest

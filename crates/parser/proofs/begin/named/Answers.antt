@@ -4,7 +4,6 @@ use Rattle.lexer.specs.Tokens.{left}
 use Rattle.lexer.specs.declared.token.Token.the-variants.{Open}
 use Rattle.parser.specs.Rows.{ops-of, frames-of, span-of, line-of}
 use Rattle.parser.proofs.Ways.{saw, onto, name-call, name-only}
-use borrow.Author.Needs.{needs}
 use Rattle.parser.proofs.begin.named.Needs as need
 
 pub returns-in-Open : need.returns-in-Open

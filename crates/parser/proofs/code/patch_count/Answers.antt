@@ -1,4 +1,3 @@
-use borrow.Author.Needs.{needs}
 use Rattle.parser.proofs.Words.{counts-call, counts-none, counts-past}
 use Rattle.parser.proofs.code.patch_count.Needs as need
 

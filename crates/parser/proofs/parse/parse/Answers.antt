@@ -1,6 +1,5 @@
 use mathlib.Core.Path.{_∙_}
 use native.Mathlib.Omega.{arith}
-use borrow.Author.Needs.{needs}
 use Rattle.parser.specs.declared.turn.Bounds.{Bounds}
 use Rattle.parser.proofs.Loop.{starts, ready, few-waiting, onwards, lessens, reads-it, reads-bad}
 use Rattle.parser.proofs.parse.parse.Needs as need

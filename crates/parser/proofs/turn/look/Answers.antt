@@ -1,5 +1,4 @@
 use native.Mathlib.Omega.{arith}
-use borrow.Author.Needs.{needs}
 use lib.ListN.{take}
 use Rattle.std.proofs.shelf.Lists.{length-take-le}
 use Rattle.parser.proofs.Ways.{stands-fit}

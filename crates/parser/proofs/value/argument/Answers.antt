@@ -8,7 +8,6 @@ use Rattle.grammar.specs.Code.{o-end}
 use Rattle.grammar.specs.Machine.{going, p-value, patch}
 use Rattle.parser.specs.Rows.{ops-of, frames-of, span-of, line-of}
 use Rattle.parser.proofs.Ways.{saw, onto, onto-later, stops, arg-comma, arg-close, arg-no}
-use borrow.Author.Needs.{needs}
 use Rattle.parser.proofs.value.argument.Needs as need
 
 pub returns-in-Comma : need.returns-in-Comma

@@ -1,5 +1,4 @@
 use Rattle.parser.proofs.Ways.{wins}
-use borrow.Author.Needs.{needs}
 use Rattle.parser.proofs.value.deliver.Needs as need
 
 pub returns-then-p-eq0 : need.returns-then-p-eq0

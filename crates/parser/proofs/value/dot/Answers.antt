@@ -4,7 +4,6 @@ use Rattle.lexer.specs.declared.token.Token.the-variants.{Dot}
 use Rattle.parser.specs.declared.turn.Phase.the-variants.{Value as Phase-Value}
 use Rattle.parser.specs.Rows.{ops-of, frames-of, span-of, line-of}
 use Rattle.parser.proofs.Ways.{saw, onto, moves, dot-yes, dot-no}
-use borrow.Author.Needs.{needs}
 use Rattle.parser.proofs.value.dot.Needs as need
 
 pub returns-in-Dot : need.returns-in-Dot

@@ -2,7 +2,6 @@ use mathlib.Core.Path.{sym, ap, _∙_}
 use Rattle.grammar.specs.Machine.{base}
 use Rattle.parser.specs.Rows.{frames-of}
 use Rattle.parser.proofs.Words.{frames-none}
-use borrow.Author.Needs.{needs}
 use Rattle.parser.proofs.value.lowest.Needs as need
 
 pub returns-then-d-eq0 : need.returns-then-d-eq0

@@ -4,7 +4,6 @@ use Rattle.lexer.specs.declared.token.Token.the-variants.{Sign}
 use Rattle.parser.specs.declared.turn.Phase.the-variants.{Value as Phase-Value}
 use Rattle.parser.specs.Rows.{ops-of, frames-of, span-of, line-of}
 use Rattle.parser.proofs.Ways.{saw, onto, moves, op-none, op-other, op-some}
-use borrow.Author.Needs.{needs}
 use Rattle.parser.proofs.value.operation.Needs as need
 
 pub returns-in-rest : need.returns-in-rest

@@ -2,7 +2,6 @@ use native.Mathlib.Omega.{arith}
 use Rattle.lexer.specs.Tokens.{left}
 use Rattle.parser.specs.Rows.{ops-of, frames-of, line-of}
 use Rattle.parser.proofs.Ways.{onto, value-low, value-dot, value-op}
-use borrow.Author.Needs.{needs}
 use Rattle.parser.proofs.value.value.Needs as need
 
 pub returns-then-l-lowest : need.returns-then-l-lowest
