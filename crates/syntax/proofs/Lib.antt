@@ -2,3 +2,5 @@ pub mod Taken
 pub mod Coded
 pub mod Listing
 pub mod Progress
+pub mod Join
+pub mod Whole

@@ -1,2 +1,4 @@
 pub mod Wanted
 pub mod Reads
+pub mod Begins
+pub mod Line
