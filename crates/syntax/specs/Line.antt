@@ -10,6 +10,7 @@ use Rattle.lexer.specs.Tokens.{toks, gap, left}
 use Rattle.grammar.specs.Grammar.{Item, item-of, settled, bad, nothing, i-use, i-kind, i-rec, i-def, i-bad}
 use Rattle.grammar.specs.Code.{item-code}
 use Rattle.parser.specs.Rows.{ops-of}
+use Rattle.parser.specs.declared.code.Span.{Span}
 use Rattle.syntax.specs.declared.read.Refusal.{Refusal}
 use Rattle.syntax.specs.declared.read.Refusal.the-variants.{Wrong as WrongAt, NoRoom}
 use Rattle.syntax.specs.declared.wanted.Wrong.{Wrong}
@@ -29,6 +30,10 @@ Understood (i-bad a b) = ⊥
 abbrev pub ItemRead : List ℕ → ℕ → List ℕ → Result ℕ Wrong → Type 0
 ItemRead line base vs (Ok n) = Understood (item-in line) × (ops-of line base n vs ≡ item-code (item-in line))
 ItemRead line base vs (Err w) = item-in line ≡ settled (left line 0) (bad (left line (w .at)))
+-- the same with the place
+abbrev pub ItemPlaced : List ℕ → ℕ → List ℕ → Result ℕ Span → Type 0
+ItemPlaced line base vs (Ok n) = Understood (item-in line) × (ops-of line base n vs ≡ item-code (item-in line))
+ItemPlaced line base vs (Err s) = item-in line ≡ i-bad (s .from) (s .to)
 -- the words that are enough behind base
 abbrev pub room-for : ℕ → ℕ
 room-for len = 14 * len + 64

@@ -4,7 +4,7 @@ ghost use Prim.Native.Nat.{_+_, _*_, _<_, _≤_};
 ghost use lib.ListN.{length, take};
 ghost use Rattle.lexer.specs.Tokens.{left};
 ghost use Rattle.grammar.specs.Grammar.{bad, settled, «i-bad»};
-ghost use Rattle.syntax.specs.Line.{ItemRead, LineSays, «room-for»};
+ghost use Rattle.syntax.specs.Line.{ItemRead, ItemPlaced, LineSays, «room-for»};
 use crate::defs::read_def;
 use crate::items::read_block;
 use crate::items::read_use;
@@ -69,6 +69,20 @@ fn read_item(words: &mut [u32], len: usize, base: usize) -> Result<usize, Wrong>
     }
 }
 
+// The same, with the place where the line isn't understood.
+fn read_placed(words: &mut [u32], len: usize, base: usize) -> Result<usize, Span>
+    requires small { ⌜ len < 4294967000 ⌝ }
+    requires line { ⌜ len ≤ base ⌝ }
+    requires room { ⌜ base + 14 * len + 64 ≤ length (now words) ⌝ }
+    ensures front { λ _. ⌜ take base (now (words .exit)) ≡ take base (now (words .entry)) ⌝ }
+    ensures reads { λ r. ⌜ ItemPlaced (take len (now (words .entry))) base (now (words .exit)) r ⌝ }
+{
+    match read_item(words, len, base) {
+        Ok(count) => Ok(count),
+        Err(wrong) => Err(place_of(words, len, wrong)),
+    }
+}
+
 // The line stands in the first len words; its code comes to stand from base on, as many operations as are given back, and what
 // stands before base stays as it was.
 pub fn read_line(words: &mut [u32], len: usize, base: usize) -> Result<usize, Refusal>
@@ -78,8 +92,8 @@ pub fn read_line(words: &mut [u32], len: usize, base: usize) -> Result<usize, Re
     if len > LONGEST || len > base || base > words.len() || words.len() - base < room(len) {
         return Err(Refusal::NoRoom);
     }
-    match read_item(words, len, base) {
+    match read_placed(words, len, base) {
         Ok(count) => Ok(count),
-        Err(wrong) => Err(Refusal::Wrong(place_of(words, len, wrong))),
+        Err(place) => Err(Refusal::Wrong(place)),
     }
 }
