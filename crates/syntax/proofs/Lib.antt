@@ -2,5 +2,4 @@ pub mod Taken
 pub mod Coded
 pub mod Listing
 pub mod Progress
-pub mod Join
 pub mod Whole

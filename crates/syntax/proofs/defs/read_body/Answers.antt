@@ -7,10 +7,9 @@ use Rattle.lexer.specs.Tokens.{left}
 use Rattle.grammar.specs.Grammar.{it, with1}
 use Rattle.grammar.specs.Code.{code}
 use Rattle.parser.specs.Rows.{ops-of}
-use Rattle.parser.proofs.Words.{same-ops}
+use Rattle.parser.proofs.Words.{ops-join, same-ops}
 use Rattle.parser.proofs.Loop.{left-short}
 use Rattle.syntax.proofs.Listing.{front-line, take-full}
-use Rattle.syntax.proofs.Join.{ops-join}
 use Rattle.syntax.proofs.defs.read_body.Needs as need
 
 pub returns-in-It : need.returns-in-It
