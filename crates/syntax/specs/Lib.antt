@@ -1,2 +1,3 @@
 pub mod Wanted
 pub mod Reads
+pub mod View

@@ -3,4 +3,5 @@
 pub mod items;
 pub mod lists;
 pub mod parts;
+pub mod view;
 pub mod wanted;
