@@ -3,4 +3,5 @@ pub mod Coded
 pub mod Listing
 pub mod Progress
 pub mod Join
+pub mod Whole
 pub mod Views

@@ -84,3 +84,11 @@ EndSays line at (Err w) = (w .at ≡ at) × ((os : List Flat) → ends os (left 
 abbrev pub ReadsSays : List ℕ → ℕ → ℕ → List ℕ → List ℕ → Got (List Flat) → Result Place Wrong → Type 0
 ReadsSays line base n ws vs g (Ok p) = (os : List Flat) × (g ≡ it os (left line (p .at))) × (ops-of line base (p .count) vs ≡ ops-of line base n ws ++ os) × (p .count < p .at) × (p .at ≤ length line)
 ReadsSays line base n ws vs g (Err w) = (g ≡ bad (left line (w .at)))
+-- the same, where fewer operations stand than the line has bytes
+abbrev pub BodySays : List ℕ → ℕ → ℕ → List ℕ → List ℕ → Got (List Flat) → Result Place Wrong → Type 0
+BodySays line base n ws vs g (Ok p) = (os : List Flat) × (g ≡ it os (left line (p .at))) × (ops-of line base (p .count) vs ≡ ops-of line base n ws ++ os) × (p .count < length line) × (p .at ≤ length line)
+BodySays line base n ws vs g (Err w) = (g ≡ bad (left line (w .at)))
+-- a whole item: so many operations, and they are all that was read
+abbrev pub ItemSays : List ℕ → ℕ → List ℕ → Got (List Flat) → Result ℕ Wrong → Type 0
+ItemSays line base vs g (Ok n) = (os : List Flat) × (us : List Tok) × (g ≡ it os us) × (ops-of line base n vs ≡ os)
+ItemSays line base vs g (Err w) = (g ≡ bad (left line (w .at)))
