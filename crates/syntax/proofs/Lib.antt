@@ -3,3 +3,4 @@ pub mod Coded
 pub mod Listing
 pub mod Progress
 pub mod Whole
+pub mod Views

@@ -6,4 +6,5 @@ mod lists;
 mod parts;
 pub mod read;
 mod start;
+pub mod view;
 mod wanted;
