@@ -22,7 +22,7 @@ no-note c l = ne-eqb c 35 (λ e. both-ways (letter 35) refl (ap letter (sym e) �
 abbrev pub part : List ℕ → ℕ → ℕ → Word
 part xs f i = take (i - f) (drop f xs)
 
-part-more : (xs : List ℕ) (f i : ℕ) → f ≤ i → i < length xs → part xs f i ++ (getD xs i 0 ∷ []) ≡ part xs f (i + 1)
+pub part-more : (xs : List ℕ) (f i : ℕ) → f ≤ i → i < length xs → part xs f i ++ (getD xs i 0 ∷ []) ≡ part xs f (i + 1)
 part-more xs f i h l =
     let e : i + 1 - f ≡ i - f + 1 = omega arith in
     let back : f + (i - f) ≡ i = omega arith in
@@ -45,7 +45,7 @@ module _ (xs : List ℕ) (i : ℕ) (inside : i < length xs) where
       at-drop-more (toks (in-word (part xs f i) f) i) xs i 0 inside ∙ word-ends (part xs f i) f i (getD xs i 0) (drop (i + 1) xs) e ∙
       ap (λ ts. tok (part xs f i) f i ∷ ts) (sym (at-drop-more (toks gap i) xs i 0 inside))
 
-  one-long : getD xs i 0 ∷ [] ≡ part xs i (i + 1)
+  pub one-long : getD xs i 0 ∷ [] ≡ part xs i (i + 1)
   one-long =
       let z : i - i ≡ 0 = omega arith in
       ap (λ n. take n (drop i xs) ++ (getD xs i 0 ∷ [])) (sym z) ∙ part-more xs i i (omega arith) inside

@@ -12,10 +12,10 @@ pub skip-blank : (at c : ℕ) (cs : List ℕ) → blank c ≡ true → toks gap 
 skip-blank at c cs e = simp e
 
 -- a byte by its four tests, so that a proof goes by cases
-abbrev by : List Tok → ℕ → ℕ → Bool → Bool → Bool → Bool → Turn
+abbrev pub by : List Tok → ℕ → ℕ → Bool → Bool → Bool → Bool → Turn
 by o at c b n l e = pick b (turn o gap) (pick n (turn o note) (pick l (turn o (in-word (c ∷ []) at)) (pick e (turn o (equals at)) (turn (o ++ (tok (c ∷ []) at (at + 1) ∷ [])) gap))))
 
-abbrev after : Turn → ℕ → List ℕ → List Tok
+abbrev pub after : Turn → ℕ → List ℕ → List Tok
 after t at cs = t .out ++ toks (t .mode) (at + 1) cs
 
 first-by : (t : Tok) (at c : ℕ) (cs : List ℕ) (b n l e : Bool) → after (by (t ∷ []) at c b n l e) at cs ≡ t ∷ after (by [] at c b n l e) at cs

@@ -3,3 +3,5 @@ pub mod Words
 pub mod Kinds
 pub mod Parts
 pub mod Seen
+pub mod Lines
+pub mod Theorems

@@ -5,7 +5,7 @@ ghost use mathlib.Core.List.{[], _∷_};
 ghost use Prim.Native.Nat.{_-_, _<_, _≤_};
 ghost use lib.ListN.{length, getD, take, drop};
 ghost use Rattle.std.specs.Options.{Cases as BySome};
-ghost use Rattle.lexer.specs.Tokens.{letter, blank, left, piece};
+ghost use Rattle.lexer.specs.Tokens.{letter, blank, left, piece, «end-of»};
 ghost use Rattle.lexer.specs.Seen.{NextAt, SeenSays};
 use crate::bytes::{is_blank, is_letter};
 use crate::token::{token_of, Token};
@@ -110,4 +110,16 @@ pub fn peek(line: &[u32], at: usize) -> Seen
         Some(p) => Seen { token: token_of(p.text), from: p.from, to: p.to },
         None => Seen { token: Token::End, from: at, to: at },
     }
+}
+
+// Where the last piece of a line ends, 0 where it has none.
+pub fn last_end(line: &[u32]) -> usize
+    ensures { λ r. ⌜ r ≡ «end-of» (left (now (line .entry)) 0) ⌝ }
+{
+    let mut reader = Reader { line, at: 0 };
+    let mut end = 0;
+    while let Some(p) = reader.next() {
+        end = p.to;
+    }
+    end
 }
