@@ -1,3 +1,5 @@
 pub mod Names
 pub mod Check
 pub mod Answers
+pub mod Walk
+pub mod Promise
