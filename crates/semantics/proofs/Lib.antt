@@ -1,3 +1,6 @@
+pub mod Lists
+pub mod Gather
+pub mod Blame
 pub mod Runs
 pub mod Partial
 pub mod Sizes

@@ -3,3 +3,4 @@ pub mod Check
 pub mod Answers
 pub mod Walk
 pub mod Promise
+pub mod Theorems

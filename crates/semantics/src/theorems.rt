@@ -1,9 +1,24 @@
 // Each function is there for its contract, which is a theorem of specs/Promise or specs/Theorems.
 ghost use Rattle.semantics.specs.Promise.{Line-said};
+ghost use Rattle.semantics.specs.Theorems.{Untyped-unblamed, Types-mean};
 
 // The walk over a line's code says what the definition says of the line, and asks little.
 pub fn line_said() -> u8
     ensures { λ _. ⌜ Line-said ⌝ }
+{
+    0
+}
+
+// Another type is wanted only of an expression that has one.
+pub fn untyped_unblamed() -> u8
+    ensures { λ _. ⌜ Untyped-unblamed ⌝ }
+{
+    0
+}
+
+// Each type that is noted is that of an expression of the line, at its place.
+pub fn types_mean() -> u8
+    ensures { λ _. ⌜ Types-mean ⌝ }
 {
     0
 }
