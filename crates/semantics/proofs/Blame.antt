@@ -35,7 +35,7 @@ module _ (here : Look) (there : Word → Word → Sig) where
   line-says me file-there before it =
       let ps = item-parts here there it in
       item-says (F ps) (T ps) L here there me file-there before it (record
-        { tokens = each-of (Faulty (F ps) (T ps) L) (item-tokens (F ps) (T ps) L here there it) (λ t a k ne s. absurd (ne s))
+        { tokens = each-of (Faulty (F ps) (T ps) L) (item-tokens it) (λ t a k ne s. absurd (ne s))
         ; bad = λ a b e s. absurd (omega arith)
         ; uses = λ t e y n. tt
         ; types = each-of (Type-linked (F ps) (T ps) L here there) (type-words it) (λ t a y n k o l. tt)

@@ -32,6 +32,18 @@ token-in (e-par n e m) = none
 abbrev pub On : Tok → Link → Type 0
 On t k = (k .from ≡ t .from) × (k .to ≡ t .to)
 
+abbrev pub field-names : List Field → List Tok
+field-names [] = []
+field-names (x ∷ xs) = x .name ∷ field-names xs
+-- the pieces of a line at which a fault can stand, but for its expression
+abbrev pub item-tokens : Item → List Tok
+item-tokens nothing = []
+item-tokens (i-use t) = t ∷ []
+item-tokens (i-kind t cs) = t ∷ cs
+item-tokens (i-rec t fs) = t ∷ (field-names fs ++ field-types fs)
+item-tokens (i-def t ps r e) = t ∷ (r ∷ (field-names ps ++ field-types ps))
+item-tokens (i-bad a b) = []
+
 module _ (PF : Fault → Type 0) (PT : Typed → Type 0) (PL : Link → Type 0) where
   -- it holds of all that is said
   pub record Says (s : Said) : Type 0 where
@@ -192,17 +204,6 @@ module _ (PF : Fault → Type 0) (PT : Typed → Type 0) (PL : Link → Type 0) 
           join-says (wanted (s .ty) e (check here there g e)) (checks here there g ss es) none (wanted-says (s .ty) e (check here there g e) (root g e he .blamed) (check-says g e he)) (checks-say g ss es (each-right Node (parts here there g e) (all-parts here there g es) h))
 
     -- a whole line
-    abbrev pub field-names : List Field → List Tok
-    field-names [] = []
-    field-names (x ∷ xs) = x .name ∷ field-names xs
-    -- the pieces of a line at which a fault can stand, but for its expression
-    abbrev pub item-tokens : Item → List Tok
-    item-tokens nothing = []
-    item-tokens (i-use t) = t ∷ []
-    item-tokens (i-kind t cs) = t ∷ cs
-    item-tokens (i-rec t fs) = t ∷ (field-names fs ++ field-types fs)
-    item-tokens (i-def t ps r e) = t ∷ (r ∷ (field-names ps ++ field-types ps))
-    item-tokens (i-bad a b) = []
     -- a word that stands for a type and isn't num or bool
     abbrev pub Type-linked : Tok → Type 0
     Type-linked t = same (t .w) k-num ≡ false → same (t .w) k-bool ≡ false → Linked t (here (t .w)) none

@@ -1,5 +1,7 @@
 pub mod Lists
 pub mod Gather
+pub mod Sits
+pub mod Stands
 pub mod Blame
 pub mod Runs
 pub mod Partial

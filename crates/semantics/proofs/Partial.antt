@@ -12,9 +12,9 @@ use Rattle.semantics.specs.Walk.{State, Query, asks, step, told, run, asked, F
 
 module _ {K : Type 0} (l : Query → Fetch K) (f : Query → Known) (ok : Agrees l f) where
   -- one operation that asks m: h is the walk after it, r what the run after it comes to, qs what that asks
-  one-turn : (m : Option Query) (h : Known → Outcome K) (r : State) (qs : List Query) → h (told f m) ≡ opt (first-lacking l qs) (ends r) need → go-on (fetch l m) h ≡ opt (first-lacking l (opt m [] (λ q. q ∷ []) ++ qs)) (ends r) need
-  one-turn none h r qs p = p
-  one-turn (some q) h r qs p = go (l q) refl
+  one-step : (m : Option Query) (h : Known → Outcome K) (r : State) (qs : List Query) → h (told f m) ≡ opt (first-lacking l qs) (ends r) need → go-on (fetch l m) h ≡ opt (first-lacking l (opt m [] (λ q. q ∷ []) ++ qs)) (ends r) need
+  one-step none h r qs p = p
+  one-step (some q) h r qs p = go (l q) refl
     where
       go : (v : Fetch K) → l q ≡ v → go-on v h ≡ opt (or-lacks v (first-lacking l qs)) (ends r) need
       go (lacks k) e = refl
@@ -22,7 +22,7 @@ module _ {K : Type 0} (l : Query → Fetch K) (f : Query → Known) (ok : Agrees
   -- the whole of it: it stops at the first of what the whole walk asks that isn't known, or ends as that one does
   pub tries-is : (os : List Op) (σ : State) → tries l os σ ≡ opt (first-lacking l (asked f os σ)) (ends (run f os σ)) need
   tries-is [] σ = refl
-  tries-is (o ∷ os) σ = one-turn (asks o σ) (λ s. tries l os (step s o σ)) (run f os (step (told f (asks o σ)) o σ)) (asked f os (step (told f (asks o σ)) o σ)) (tries-is os (step (told f (asks o σ)) o σ))
+  tries-is (o ∷ os) σ = one-step (asks o σ) (λ s. tries l os (step s o σ)) (run f os (step (told f (asks o σ)) o σ)) (asked f os (step (told f (asks o σ)) o σ)) (tries-is os (step (told f (asks o σ)) o σ))
   -- it ends: as the whole walk does
   pub ends-right : (os : List Op) (σ τ : State) → tries l os σ ≡ ends τ → τ ≡ run f os σ
   ends-right os σ τ p = go (first-lacking l (asked f os σ)) (sym (tries-is os σ) ∙ p)
@@ -61,10 +61,10 @@ asked-few f (o ∷ os) σ = go (asks o σ) (asked f os (step (told f (asks o σ)
     go none qs h = omega arith
     go (some q) qs h = omega arith
 -- told the first n answers in order, the walk asks for the next, or ends if there is none
-walk-turn : (f : Query → Known) (m : Option Query) (n : ℕ) (h : Known → List Known → Outcome Query) (r : State) (qs : List Query) → ((i : ℕ) → h (told f m) (take i (all-told f qs)) ≡ opt (at-place i qs) (ends r) need) → next-told (take n (all-told f (opt m [] (λ q. q ∷ []) ++ qs))) m h ≡ opt (at-place n (opt m [] (λ q. q ∷ []) ++ qs)) (ends r) need
-walk-turn f none n h r qs p = p n
-walk-turn f (some q) zero h r qs p = refl
-walk-turn f (some q) (suc n) h r qs p = p n
+walk-step : (f : Query → Known) (m : Option Query) (n : ℕ) (h : Known → List Known → Outcome Query) (r : State) (qs : List Query) → ((i : ℕ) → h (told f m) (take i (all-told f qs)) ≡ opt (at-place i qs) (ends r) need) → next-told (take n (all-told f (opt m [] (λ q. q ∷ []) ++ qs))) m h ≡ opt (at-place n (opt m [] (λ q. q ∷ []) ++ qs)) (ends r) need
+walk-step f none n h r qs p = p n
+walk-step f (some q) zero h r qs p = refl
+walk-step f (some q) (suc n) h r qs p = p n
 pub walk-is : (f : Query → Known) (os : List Op) (n : ℕ) (σ : State) → walk os (take n (all-told f (asked f os σ))) σ ≡ opt (at-place n (asked f os σ)) (ends (run f os σ)) need
 walk-is f [] n σ = refl
-walk-is f (o ∷ os) n σ = walk-turn f (asks o σ) n (λ z bs. walk os bs (step z o σ)) (run f os (step (told f (asks o σ)) o σ)) (asked f os (step (told f (asks o σ)) o σ)) (λ i. walk-is f os i (step (told f (asks o σ)) o σ))
+walk-is f (o ∷ os) n σ = walk-step f (asks o σ) n (λ z bs. walk os bs (step z o σ)) (run f os (step (told f (asks o σ)) o σ)) (asked f os (step (told f (asks o σ)) o σ)) (λ i. walk-is f os i (step (told f (asks o σ)) o σ))

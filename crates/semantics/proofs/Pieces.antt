@@ -14,16 +14,16 @@ use Rattle.grammar.specs.Grammar.{E, e-num, e-name, e-call, e-field, e-op, e-if
 use Rattle.grammar.specs.Code.{Op, o-result, o-body, onto, slots-onto, consts-code, item-code}
 use Rattle.semantics.proofs.Sizes.{none-left, pieces-of, args-of, few}
 
-abbrev Good : {A : Type 0} → (A → List Tok → Type 0) → Got A → Type 0
+abbrev pub Good : {A : Type 0} → (A → List Tok → Type 0) → Got A → Type 0
 Good P (it a ts) = P a ts
 Good P (bad ts) = Unit {0}
-good-with : {A C : Type 0} (P : A → List Tok → Type 0) (Q : C → List Tok → Type 0) (r : Got A) (f : A → List Tok → Got C) → Good P r → ((a : A) (us : List Tok) → P a us → Good Q (f a us)) → Good Q (with1 r f)
+pub good-with : {A C : Type 0} (P : A → List Tok → Type 0) (Q : C → List Tok → Type 0) (r : Got A) (f : A → List Tok → Got C) → Good P r → ((a : A) (us : List Tok) → P a us → Good Q (f a us)) → Good Q (with1 r f)
 good-with P Q (it a us) f p h = h a us p
 good-with P Q (bad us) f p h = tt
-good-pick : {A : Type 0} (P : A → List Tok → Type 0) (b : Bool) (x y : Got A) → Good P x → Good P y → Good P (pick b x y)
+pub good-pick : {A : Type 0} (P : A → List Tok → Type 0) (b : Bool) (x y : Got A) → Good P x → Good P y → Good P (pick b x y)
 good-pick P true x y p q = p
 good-pick P false x y p q = q
-good-opt : {A C : Type 0} (P : A → List Tok → Type 0) (o : Option C) (x : Got A) (f : C → Got A) → Good P x → ((c : C) → Good P (f c)) → Good P (opt o x f)
+pub good-opt : {A C : Type 0} (P : A → List Tok → Type 0) (o : Option C) (x : Got A) (f : C → Got A) → Good P x → ((c : C) → Good P (f c)) → Good P (opt o x f)
 good-opt P none x f p q = p
 good-opt P (some c) x f p q = q c
 good-eat : {C : Type 0} (Q : C → List Tok → Type 0) (w : Word) (ts : List Tok) (f : Tok → List Tok → Got C) → ((t : Tok) (us : List Tok) → suc (length us) ≤ length ts → Good Q (f t us)) → Good Q (eat w ts f)

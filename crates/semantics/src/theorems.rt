@@ -1,6 +1,6 @@
 // Each function is there for its contract, which is a theorem of specs/Promise or specs/Theorems.
 ghost use Rattle.semantics.specs.Promise.{Line-said};
-ghost use Rattle.semantics.specs.Theorems.{Untyped-unblamed, Types-mean};
+ghost use Rattle.semantics.specs.Theorems.{Untyped-unblamed, Types-mean, Within-line, Links-mean};
 
 // The walk over a line's code says what the definition says of the line, and asks little.
 pub fn line_said() -> u8
@@ -19,6 +19,20 @@ pub fn untyped_unblamed() -> u8
 // Each type that is noted is that of an expression of the line, at its place.
 pub fn types_mean() -> u8
     ensures { λ _. ⌜ Types-mean ⌝ }
+{
+    0
+}
+
+// All that is said of a line stands in it.
+pub fn within_line() -> u8
+    ensures { λ _. ⌜ Within-line ⌝ }
+{
+    0
+}
+
+// Each link of a line stands at a name, and goes to what the name means there.
+pub fn links_mean() -> u8
+    ensures { λ _. ⌜ Links-mean ⌝ }
 {
     0
 }
