@@ -11,3 +11,4 @@ pub mod Programs
 pub mod Pieces
 pub mod Bytes
 pub mod Room
+pub mod Cases
