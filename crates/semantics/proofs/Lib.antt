@@ -11,4 +11,5 @@ pub mod Programs
 pub mod Pieces
 pub mod Bytes
 pub mod Room
+pub mod Once
 pub mod Cases

@@ -10,8 +10,10 @@ use Rattle.base.specs.Base.{Word, same}
 use Rattle.lexer.specs.Tokens.{Tok, Line, pieces}
 use Rattle.lexer.specs.Words.{is-name}
 use Rattle.grammar.specs.Grammar.{E, e-num, e-name, e-call, e-field, e-op, e-if, e-let, e-par, Es, no, and-then, from-of, to-of, Field, Item, nothing, i-use, i-kind, i-rec, i-def, i-bad, item}
-use Rattle.semantics.specs.Names.{Ty, Slot, Sig, s-unknown, s-several, s-type, s-const, s-rec, s-def}
+use Rattle.semantics.specs.Names.{Texts, Ty, Slot, Sig, s-unknown, s-several, s-type, s-const, s-rec, s-def}
 use Rattle.semantics.specs.Check.{Fault, Typed, Link, Said, faults-in, types-in, links-in, ty-in, Local, find, Look, check, locals, of-item}
+use Rattle.semantics.specs.Answers.{faults, type-of, where-is}
+use Rattle.semantics.specs.Read.{sources}
 
 -- each of these is so; one of them is; x is one of them
 abbrev pub Each : {A : Type 0} → (A → Type 0) → List A → Type 0
@@ -124,3 +126,8 @@ Means me here there file-there it t k =
 abbrev pub Links-mean : Type 0
 Links-mean = (me : Word) (here : Look) (there : Word → Word → Sig) (file-there : Word → Bool) (before : List Word) (l : Line) →
     Each (λ k. (t : Tok) × Among t (pieces l) × (is-name (t .w) ≡ true) × (k .from ≡ t .from) × (k .to ≡ t .to) × Means me here there file-there (item l) t k) (links-in (of-item me here there file-there before (item l)))
+
+-- What is answered depends on what the lines of files say, where they begin and how long they are, and on nothing else: where two projects
+-- are alike in that, every answer is the same. So what stands in a note or between pieces is never looked at.
+abbrev pub Items-only : Type 0
+Items-only = (p q : Texts) → sources p ≡ sources q → (f : Word) → (faults p f ≡ faults q f) × ((n : ℕ) → type-of p f n ≡ type-of q f n) × ((n : ℕ) → where-is p f n ≡ where-is q f n)
