@@ -13,3 +13,4 @@ pub mod Bytes
 pub mod Room
 pub mod Once
 pub mod Cases
+pub mod Worked
