@@ -26,7 +26,7 @@ module _ (here : Look) (there : Word → Word → Sig) where
   nodes : (ps : List Part) → Each (Node (F ps) (T ps) L here there) ps
   nodes ps = each-of (Node (F ps) (T ps) L here there) ps (λ p a. record
       { blamed = λ u q s. one-of (Blamed here there (record { from = from-of (p .expr); to = to-of (p .expr); sort = 5 })) p ps a (u, q, refl, refl)
-      ; token = λ t e k ne s. absurd (ne s)
+      ; token = λ t e k ne s. absurd (ne .0 s)
       ; noted = λ u q. one-of (Notes here there (record { from = from-of (p .expr); to = to-of (p .expr); ty = u })) p ps a (q, refl, refl)
       ; linked = λ t e k o l. tt })
   expr-says : (g : List Local) (e : E) → Says (F (parts here there g e)) (T (parts here there g e)) L (check here there g e)
@@ -35,7 +35,7 @@ module _ (here : Look) (there : Word → Word → Sig) where
   line-says me file-there before it =
       let ps = item-parts here there it in
       item-says (F ps) (T ps) L here there me file-there before it (record
-        { tokens = each-of (Faulty (F ps) (T ps) L) (item-tokens it) (λ t a k ne s. absurd (ne s))
+        { tokens = each-of (Faulty (F ps) (T ps) L) (item-tokens it) (λ t a k ne s. absurd (ne .0 s))
         ; bad = λ a b e s. absurd (omega arith)
         ; uses = λ t e y n. tt
         ; types = each-of (Type-linked (F ps) (T ps) L here there) (type-words it) (λ t a y n k o l. tt)

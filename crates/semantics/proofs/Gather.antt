@@ -28,6 +28,23 @@ token-in (e-op o a b) = none
 token-in (e-if n a b c) = none
 token-in (e-let n x a b) = none
 token-in (e-par n e m) = none
+-- the number of a fault other than 1 and 5
+abbrev pub Other : ℕ → Type 0
+Other k = (k ≡ 5 → ⊥) × (2 ≤ k) × (k ≤ 9)
+two : Other 2
+two = (λ e. omega arith, omega arith, omega arith)
+three : Other 3
+three = (λ e. omega arith, omega arith, omega arith)
+four : Other 4
+four = (λ e. omega arith, omega arith, omega arith)
+six : Other 6
+six = (λ e. omega arith, omega arith, omega arith)
+seven : Other 7
+seven = (λ e. omega arith, omega arith, omega arith)
+eight : Other 8
+eight = (λ e. omega arith, omega arith, omega arith)
+nine : Other 9
+nine = (λ e. omega arith, omega arith, omega arith)
 -- a link at a piece
 abbrev pub On : Tok → Link → Type 0
 On t k = (k .from ≡ t .from) × (k .to ≡ t .to)
@@ -50,9 +67,9 @@ module _ (PF : Fault → Type 0) (PT : Typed → Type 0) (PL : Link → Type 0) 
     pub faults : Each PF (faults-in s)
     pub types : Each PT (types-in s)
     pub links : Each PL (links-in s)
-  -- all faults but 5 at a piece
+  -- all faults from 2 to 9 but 5 at a piece
   abbrev pub Faulty : Tok → Type 0
-  Faulty t = (k : ℕ) → (k ≡ 5 → ⊥) → PF (fault (t .from) (t .to) k)
+  Faulty t = (k : ℕ) → Other k → PF (fault (t .from) (t .to) k)
 
   quiet-says : Says quiet
   quiet-says = record { faults = tt; types = tt; links = tt }
@@ -89,12 +106,12 @@ module _ (PF : Fault → Type 0) (PT : Typed → Type 0) (PL : Link → Type 0) 
   op-says : (o : ℕ) (a b : E) (x y : Said) → ((u : Ty) → ty-in x ≡ some u → PF (fault (from-of a) (to-of a) 5)) → ((u : Ty) → ty-in y ≡ some u → PF (fault (from-of b) (to-of b) 5)) → Says x → Says y → Says (with-op o a b x y)
   op-says o a b (said t fs ts ls) (said u gs us ms) ha hb p q = record { faults = each-cat PF (fs ++ gs) _ (each-cat PF fs gs (p .faults) (q .faults)) (go (eqb o 3) (leb 5 o)); types = each-cat PT ts us (p .types) (q .types); links = each-cat PL ls ms (p .links) (q .links) }
     where
-      two : (w : Ty) → Each PF (both w (from-of a) (to-of a) (from-of b) (to-of b) t u)
-      two w = each-cat PF (wants w (from-of a) (to-of a) t) (wants w (from-of b) (to-of b) u) (wants-says w (from-of a) (to-of a) t ha) (wants-says w (from-of b) (to-of b) u hb)
+      sides : (w : Ty) → Each PF (both w (from-of a) (to-of a) (from-of b) (to-of b) t u)
+      sides w = each-cat PF (wants w (from-of a) (to-of a) t) (wants w (from-of b) (to-of b) u) (wants-says w (from-of a) (to-of a) t ha) (wants-says w (from-of b) (to-of b) u hb)
       go : (i j : Bool) → Each PF (pick i (opt t [] (λ v. wants v (from-of b) (to-of b) u)) (pick j (both t-bool (from-of a) (to-of a) (from-of b) (to-of b) t u) (both t-num (from-of a) (to-of a) (from-of b) (to-of b) t u)))
       go true j = first-says t (from-of b) (to-of b) u hb
-      go false true = two t-bool
-      go false false = two t-num
+      go false true = sides t-bool
+      go false false = sides t-num
   if-says : (a b c : E) (x y z : Said) → ((u : Ty) → ty-in x ≡ some u → PF (fault (from-of a) (to-of a) 5)) → ((u : Ty) → ty-in z ≡ some u → PF (fault (from-of c) (to-of c) 5)) → Says x → Says y → Says z → Says (with-if a b c x y z)
   if-says a b c (said o fs ts ls) (said p gs us ms) (said q hs vs ns) ha hc x y z = record
       { faults = each-cat PF ((fs ++ wants t-bool (from-of a) (to-of a) o) ++ (gs ++ hs)) _ (each-cat PF (fs ++ wants t-bool (from-of a) (to-of a) o) (gs ++ hs) (each-cat PF fs _ (x .faults) (wants-says t-bool (from-of a) (to-of a) o ha)) (each-cat PF gs hs (y .faults) (z .faults))) (first-says p (from-of c) (to-of c) q hc)
@@ -125,22 +142,22 @@ module _ (PF : Fault → Type 0) (PT : Typed → Type 0) (PL : Link → Type 0) 
   abbrev pub Linked : Tok → Sig → Option Local → Type 0
   Linked t s m = (k : Link) → On t k → Leads s m k → PL k
   alone-says : (t : Tok) (s : Sig) → Faulty t → Linked t s none → Says (name-alone t s)
-  alone-says t s-unknown h l = wrong-says t 2 (h 2 (λ e. omega arith))
-  alone-says t s-several h l = wrong-says t 3 (h 3 (λ e. omega arith))
-  alone-says t (s-type f n) h l = record { faults = (h 8 (λ e. omega arith), tt); types = tt; links = (l (link-to t f n) (refl, refl) (refl, (refl, refl)), tt) }
+  alone-says t s-unknown h l = wrong-says t 2 (h 2 two)
+  alone-says t s-several h l = wrong-says t 3 (h 3 three)
+  alone-says t (s-type f n) h l = record { faults = (h 8 eight, tt); types = tt; links = (l (link-to t f n) (refl, refl) (refl, (refl, refl)), tt) }
   alone-says t (s-const f n o) h l = record { faults = tt; types = tt; links = (l (link-to t f n) (refl, refl) (refl, (refl, refl)), tt) }
-  alone-says t (s-rec f n ss) h l = record { faults = (h 8 (λ e. omega arith), tt); types = tt; links = (l (link-to t f n) (refl, refl) (refl, (refl, refl)), tt) }
-  alone-says t (s-def f n ss o) h l = record { faults = (h 8 (λ e. omega arith), tt); types = tt; links = (l (link-to t f n) (refl, refl) (refl, (refl, refl)), tt) }
+  alone-says t (s-rec f n ss) h l = record { faults = (h 8 eight, tt); types = tt; links = (l (link-to t f n) (refl, refl) (refl, (refl, refl)), tt) }
+  alone-says t (s-def f n ss o) h l = record { faults = (h 8 eight, tt); types = tt; links = (l (link-to t f n) (refl, refl) (refl, (refl, refl)), tt) }
   name-says : (t : Tok) (s : Sig) (m : Option Local) → Faulty t → Linked t s m → Says (opt m (name-alone t s) (λ x. said (x .ty) [] [] (link-local t x ∷ [])))
   name-says t s none h l = alone-says t s h l
   name-says t s (some x) h l = record { faults = tt; types = tt; links = (l (link-local t x) (refl, refl) (refl, refl), tt) }
   abbrev Callee-says : Callee → Type 0
   Callee-says (calls-it o s) = Says s
   callee-says : (t : Tok) (s : Sig) → Faulty t → Linked t s none → Callee-says (callee t s)
-  callee-says t s-unknown h l = wrong-says t 2 (h 2 (λ e. omega arith))
-  callee-says t s-several h l = wrong-says t 3 (h 3 (λ e. omega arith))
-  callee-says t (s-type f n) h l = record { faults = (h 8 (λ e. omega arith), tt); types = tt; links = (l (link-to t f n) (refl, refl) (refl, (refl, refl)), tt) }
-  callee-says t (s-const f n o) h l = record { faults = (h 8 (λ e. omega arith), tt); types = tt; links = (l (link-to t f n) (refl, refl) (refl, (refl, refl)), tt) }
+  callee-says t s-unknown h l = wrong-says t 2 (h 2 two)
+  callee-says t s-several h l = wrong-says t 3 (h 3 three)
+  callee-says t (s-type f n) h l = record { faults = (h 8 eight, tt); types = tt; links = (l (link-to t f n) (refl, refl) (refl, (refl, refl)), tt) }
+  callee-says t (s-const f n o) h l = record { faults = (h 8 eight, tt); types = tt; links = (l (link-to t f n) (refl, refl) (refl, (refl, refl)), tt) }
   callee-says t (s-rec f n ss) h l = record { faults = tt; types = tt; links = (l (link-to t f n) (refl, refl) (refl, (refl, refl)), tt) }
   callee-says t (s-def f n ss o) h l = record { faults = tt; types = tt; links = (l (link-to t f n) (refl, refl) (refl, (refl, refl)), tt) }
   count-says : (f : Tok) (n : ℕ) (o : Option (List Slot)) → Faulty f → Each PF (count-fault f n o)
@@ -149,12 +166,12 @@ module _ (PF : Fault → Type 0) (PT : Typed → Type 0) (PL : Link → Type 0) 
     where
       go : (b : Bool) → Each PF (pick b [] (fault (f .from) (f .to) 6 ∷ []))
       go true = tt
-      go false = (h 6 (λ e. omega arith), tt)
+      go false = (h 6 six, tt)
   with-says : (f : Tok) (es : Es) (c : Callee) (go : List Slot → Said) → Faulty f → Callee-says c → ((ss : List Slot) → Says (go ss)) → Says (with-call f es c go)
   with-says f es (calls-it o s) go h c a = front-says (count-fault f (count es) o) _ (count-says f (count es) o h) (join-says s _ (ty-in s) c (a (opt o [] (λ ss. ss))))
   call-says : (f : Tok) (es : Es) (s : Sig) (m : Option Local) (go : List Slot → Said) → Faulty f → Linked f s m → ((ss : List Slot) → Says (go ss)) → Says (opt m (with-call f es (callee f s) go) (λ x. join (said none (fault (f .from) (f .to) 8 ∷ []) [] (link-local f x ∷ [])) (go []) none))
   call-says f es s none go h l a = with-says f es (callee f s) go h (callee-says f s h l) a
-  call-says f es s (some x) go h l a = join-says (said none (fault (f .from) (f .to) 8 ∷ []) [] (link-local f x ∷ [])) (go []) none (record { faults = (h 8 (λ e. omega arith), tt); types = tt; links = (l (link-local f x) (refl, refl) (refl, refl), tt) }) (a [])
+  call-says f es s (some x) go h l a = join-says (said none (fault (f .from) (f .to) 8 ∷ []) [] (link-local f x ∷ [])) (go []) none (record { faults = (h 8 eight, tt); types = tt; links = (l (link-local f x) (refl, refl) (refl, refl), tt) }) (a [])
 
   module _ (here : Look) (there : Word → Word → Sig) where
     -- what has to hold at a part: of fault 5 at it, if it has a type; of other faults at its own piece; of its type; of its name's link
@@ -177,7 +194,7 @@ module _ (PF : Fault → Type 0) (PT : Typed → Type 0) (PL : Link → Type 0) 
       check-says g (e-num t) h = typed-says (t .from) (t .to) (said (some t-num) [] [] []) (h .0 .noted) (record { faults = tt; types = tt; links = tt })
       check-says g (e-name t) h = typed-says (t .from) (t .to) _ (h .0 .noted) (name-says t (here (t .w)) (find g (t .w)) (h .0 .token t refl) (h .0 .linked t refl))
       check-says g (e-call f es n) h = typed-says (f .from) n _ (h .0 .noted) (call-says f es (here (f .w)) (find g (f .w)) (λ ss. checks here there g ss es) (h .0 .token f refl) (h .0 .linked f refl) (λ ss. checks-say g ss es (h .1)))
-      check-says g (e-field e x) h = typed-says (from-of e) (x .to) _ (h .0 .noted) (field-says there x (check here there g e) (h .0 .token x refl 7 (λ q. omega arith)) (check-says g e (h .1)))
+      check-says g (e-field e x) h = typed-says (from-of e) (x .to) _ (h .0 .noted) (field-says there x (check here there g e) (h .0 .token x refl 7 seven) (check-says g e (h .1)))
       check-says g (e-op o a b) h =
           let ha = each-left Node (parts here there g a) (parts here there g b) (h .1) in
           let hb = each-right Node (parts here there g a) (parts here there g b) (h .1) in
@@ -215,12 +232,12 @@ module _ (PF : Fault → Type 0) (PT : Typed → Type 0) (PL : Link → Type 0) 
     type-said t (s-rec f n ss) = said (some (t-of f n)) [] [] (link-to t f n ∷ [])
     type-said t (s-def f n ss o) = said none (fault (t .from) (t .to) 8 ∷ []) [] (link-to t f n ∷ [])
     sig-says : (t : Tok) (s : Sig) → Faulty t → Linked t s none → Says (type-said t s)
-    sig-says t s-unknown h l = wrong-says t 2 (h 2 (λ e. omega arith))
-    sig-says t s-several h l = wrong-says t 3 (h 3 (λ e. omega arith))
+    sig-says t s-unknown h l = wrong-says t 2 (h 2 two)
+    sig-says t s-several h l = wrong-says t 3 (h 3 three)
     sig-says t (s-type f n) h l = record { faults = tt; types = tt; links = (l (link-to t f n) (refl, refl) (refl, (refl, refl)), tt) }
-    sig-says t (s-const f n o) h l = record { faults = (h 8 (λ e. omega arith), tt); types = tt; links = (l (link-to t f n) (refl, refl) (refl, (refl, refl)), tt) }
+    sig-says t (s-const f n o) h l = record { faults = (h 8 eight, tt); types = tt; links = (l (link-to t f n) (refl, refl) (refl, (refl, refl)), tt) }
     sig-says t (s-rec f n ss) h l = record { faults = tt; types = tt; links = (l (link-to t f n) (refl, refl) (refl, (refl, refl)), tt) }
-    sig-says t (s-def f n ss o) h l = record { faults = (h 8 (λ e. omega arith), tt); types = tt; links = (l (link-to t f n) (refl, refl) (refl, (refl, refl)), tt) }
+    sig-says t (s-def f n ss o) h l = record { faults = (h 8 eight, tt); types = tt; links = (l (link-to t f n) (refl, refl) (refl, (refl, refl)), tt) }
     type-says : (t : Tok) → Faulty t → Type-linked t → Says (of-type here t)
     type-says t h l = go (same (t .w) k-num) (same (t .w) k-bool) (here (t .w)) l
       where
@@ -231,7 +248,7 @@ module _ (PF : Fault → Type 0) (PT : Typed → Type 0) (PL : Link → Type 0) 
         go false true s l = plain (some t-bool)
         go false false s l = sig-says t s h (l refl refl)
     again-says : (seen : List Word) (t : Tok) → Faulty t → Says (again seen t)
-    again-says seen t h = pick-says (among (t .w) seen) (wrong t 4) quiet (wrong-says t 4 (h 4 (λ e. omega arith))) quiet-says
+    again-says seen t h = pick-says (among (t .w) seen) (wrong t 4) quiet (wrong-says t 4 (h 4 four)) quiet-says
     new-says : (seen : List Word) (ts : List Tok) → Each Faulty ts → Says (new-names seen ts)
     new-says seen [] h = quiet-says
     new-says seen (t ∷ ts) h = join-says (again seen t) (new-names (seen ++ (t .w ∷ [])) ts) none (again-says seen t (h .0)) (new-says (seen ++ (t .w ∷ [])) ts (h .1))
@@ -257,9 +274,9 @@ module _ (PF : Fault → Type 0) (PT : Typed → Type 0) (PL : Link → Type 0) 
       use-says t h l = go (file-there (t .w)) (same (t .w) me) l
         where
           go : (b c : Bool) → (b ≡ true → c ≡ false → PL (use-link t)) → Says (pick (b && not c) (said none [] [] (use-link t ∷ [])) (wrong t 9))
-          go true true l = wrong-says t 9 (h 9 (λ e. omega arith))
+          go true true l = wrong-says t 9 (h 9 nine)
           go true false l = record { faults = tt; types = tt; links = (l refl refl, tt) }
-          go false c l = wrong-says t 9 (h 9 (λ e. omega arith))
+          go false c l = wrong-says t 9 (h 9 nine)
       pub item-says : (it : Item) → Whole it → Says (of-item me here there file-there before it)
       item-says nothing w = quiet-says
       item-says (i-use t) w = use-says t (w .tokens .0) (w .uses t refl)

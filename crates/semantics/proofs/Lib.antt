@@ -12,5 +12,6 @@ pub mod Pieces
 pub mod Bytes
 pub mod Room
 pub mod Once
+pub mod Numbers
 pub mod Cases
 pub mod Worked

@@ -1,4 +1,4 @@
--- How much room an operation takes: one frame, two faults, one type, one link.
+-- How much room a walk takes: for each operation one frame, two faults, one type, one link.
 use mathlib.Core.Path.{_≡_, refl, ap, sym, _∙_}
 use mathlib.Core.Bool.{Bool, true, false, _||_}
 use mathlib.Core.List.{List, [], _∷_, _++_}
@@ -162,3 +162,24 @@ step-room z (o-slot x) σ = slot-room σ _ (twice false (x .name) (σ .bound)) (
 step-room z (o-result r) σ = said-room σ _ _ (of-type (λ w. the-sig z) r) (omega arith) (more-small 1 0 (of-type (λ w. the-sig z) r) (omega arith) (omega arith) (type-small (the-sig z) r))
 step-room z o-body σ = let v = top (σ .stack) in let k = top (pop (σ .stack)) in said-room σ _ _ (tells (of-slot (k .ty) (v .from) (v .to) (v .ty))) (omega (arith, pop-1 (σ .stack), pop-1 (pop (σ .stack)))) (tells-small (of-slot (k .ty) (v .from) (v .to) (v .ty)) (omega (arith, slot-1 (k .ty) (v .from) (v .to) (v .ty))))
 step-room z (o-bad a b) σ = said-room σ _ _ (said none (fault a b 1 ∷ []) [] []) (omega arith) (omega arith)
+-- a whole walk
+pub record Grown (n : ℕ) (σ τ : State) : Type 0 where
+  pub frames : length (τ .stack) ≤ length (σ .stack) + n
+  pub faults : length (τ .out .faults) ≤ length (σ .out .faults) + 2 * n
+  pub types : length (τ .out .types) ≤ length (σ .out .types) + n
+  pub links : length (τ .out .links) ≤ length (σ .out .links) + n
+pub run-room : (f : Query → Known) (os : List Op) (σ : State) → Grown (length os) σ (run f os σ)
+run-room f [] σ = record { frames = omega arith; faults = omega arith; types = omega arith; links = omega arith }
+run-room f (o ∷ os) σ =
+    let τ = step (told f (asks o σ)) o σ in
+    let a = step-room (told f (asks o σ)) o σ in
+    let b = run-room f os τ in
+    let a1 : length (τ .stack) ≤ suc (length (σ .stack)) = a .frames in
+    let a2 : length (τ .out .faults) ≤ length (σ .out .faults) + 2 = a .faults in
+    let a3 : length (τ .out .types) ≤ length (σ .out .types) + 1 = a .types in
+    let a4 : length (τ .out .links) ≤ length (σ .out .links) + 1 = a .links in
+    let b1 : length (run f os τ .stack) ≤ length (τ .stack) + length os = b .frames in
+    let b2 : length (run f os τ .out .faults) ≤ length (τ .out .faults) + 2 * length os = b .faults in
+    let b3 : length (run f os τ .out .types) ≤ length (τ .out .types) + length os = b .types in
+    let b4 : length (run f os τ .out .links) ≤ length (τ .out .links) + length os = b .links in
+    record { frames = omega arith; faults = omega arith; types = omega arith; links = omega arith }

@@ -4,13 +4,13 @@ use mathlib.Core.Bool.{Bool, true, false}
 use mathlib.Core.List.{List, [], _∷_, _++_}
 use mathlib.Core.Logic.{_⊎_}
 use mathlib.Core.Option.{Option, some, none}
-use Prim.Native.Nat.{ℕ, _≤_}
+use Prim.Native.Nat.{ℕ, _*_, _≤_}
 use lib.ListN.{length}
 use Rattle.base.specs.Base.{Word, same}
 use Rattle.lexer.specs.Tokens.{Tok, Line, pieces}
 use Rattle.lexer.specs.Words.{is-name}
 use Rattle.grammar.specs.Grammar.{E, e-num, e-name, e-call, e-field, e-op, e-if, e-let, e-par, Es, no, and-then, from-of, to-of, Field, Item, nothing, i-use, i-kind, i-rec, i-def, i-bad, item}
-use Rattle.semantics.specs.Names.{Texts, Ty, Slot, Sig, s-unknown, s-several, s-type, s-const, s-rec, s-def}
+use Rattle.semantics.specs.Names.{File, Texts, find-file, Ty, Slot, Sig, s-unknown, s-several, s-type, s-const, s-rec, s-def}
 use Rattle.semantics.specs.Check.{Fault, Typed, Link, Said, faults-in, types-in, links-in, ty-in, Local, find, Look, check, locals, of-item}
 use Rattle.semantics.specs.Answers.{faults, type-of, where-is}
 use Rattle.semantics.specs.Read.{sources}
@@ -81,6 +81,28 @@ Within-line = (me : Word) (here : Look) (there : Word → Word → Sig) (file-th
     Each (λ f. Stands-in (length (l .bytes)) (f .from) (f .to)) (faults-in (of-item me here there file-there before (item l)))
     × Each (λ t. Stands-in (length (l .bytes)) (t .from) (t .to)) (types-in (of-item me here there file-there before (item l)))
     × Each (λ k. Stands-in (length (l .bytes)) (k .from) (k .to)) (links-in (of-item me here there file-there before (item l)))
+
+-- Each fault of a line has a number from 1 to 9, and it is 1 only where the line isn't understood, at the place where it isn't.
+abbrev pub Fault-numbers : Type 0
+Fault-numbers = (me : Word) (here : Look) (there : Word → Word → Sig) (file-there : Word → Bool) (before : List Word) (it : Item) →
+    Each (λ f. (1 ≤ f .sort) × (f .sort ≤ 9) × (f .sort ≡ 1 → it ≡ i-bad (f .from) (f .to))) (faults-in (of-item me here there file-there before it))
+
+-- Of a line of n bytes there are said at most 2 * n faults, n types and n links.
+abbrev pub Little-said : Type 0
+Little-said = (me : Word) (here : Look) (there : Word → Word → Sig) (file-there : Word → Bool) (before : List Word) (l : Line) →
+    (length (faults-in (of-item me here there file-there before (item l))) ≤ 2 * length (l .bytes))
+    × (length (types-in (of-item me here there file-there before (item l))) ≤ length (l .bytes))
+    × (length (links-in (of-item me here there file-there before (item l))) ≤ length (l .bytes))
+
+-- threes of numbers: from, behind, and a fault's number; in a text of n bytes
+abbrev pub Threes : ℕ → List ℕ → Type 0
+Threes n [] = Unit {0}
+Threes n (a ∷ []) = ⊥
+Threes n (a ∷ b ∷ []) = ⊥
+Threes n (a ∷ b ∷ k ∷ xs) = ((a ≤ b) × (b ≤ n) × (1 ≤ k) × (k ≤ 9)) × Threes n xs
+-- What is answered for the faults of a file are threes of numbers: a place in its text, and a number from 1 to 9.
+abbrev pub Faults-in-text : Type 0
+Faults-in-text = (p : Texts) (f : Word) (x : File) (ns : List ℕ) → find-file p f ≡ some x → faults p f ≡ some ns → Threes (length (x .text)) ns
 
 -- what a name is declared as: by this file, under this name
 abbrev pub Declared : Sig → Word → Word → Type 0

@@ -1,6 +1,6 @@
 // Each function is there for its contract, which is a theorem of specs/Promise or specs/Theorems.
 ghost use Rattle.semantics.specs.Promise.{Line-said};
-ghost use Rattle.semantics.specs.Theorems.{Untyped-unblamed, Types-mean, Within-line, Links-mean, Items-only};
+ghost use Rattle.semantics.specs.Theorems.{Untyped-unblamed, Types-mean, Within-line, Fault-numbers, Little-said, Faults-in-text, Links-mean, Items-only};
 
 // The walk over a line's code says what the definition says of the line, and asks little.
 pub fn line_said() -> u8
@@ -40,6 +40,27 @@ pub fn links_mean() -> u8
 // What is answered depends on what lines say, where they begin and how long they are.
 pub fn items_only() -> u8
     ensures { λ _. ⌜ Items-only ⌝ }
+{
+    0
+}
+
+// Each fault has a number from 1 to 9, and 1 only where the line isn't understood.
+pub fn fault_numbers() -> u8
+    ensures { λ _. ⌜ Fault-numbers ⌝ }
+{
+    0
+}
+
+// At most two faults, one type and one link are said for each byte of a line.
+pub fn little_said() -> u8
+    ensures { λ _. ⌜ Little-said ⌝ }
+{
+    0
+}
+
+// What is answered for the faults of a file are places in its text, each with a number from 1 to 9.
+pub fn faults_in_text() -> u8
+    ensures { λ _. ⌜ Faults-in-text ⌝ }
 {
     0
 }
