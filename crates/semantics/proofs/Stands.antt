@@ -15,7 +15,7 @@ use Rattle.lexer.proofs.Rises.{pieces-rise}
 use Rattle.grammar.specs.Grammar.{E, e-num, e-name, e-call, e-field, e-op, e-if, e-let, e-par, Es, no, and-then, from-of, to-of, Field, Item, nothing, i-use, i-kind, i-rec, i-def, i-bad, item}
 use Rattle.semantics.specs.Names.{Sig}
 use Rattle.semantics.specs.Check.{Fault, Typed, Link, Local, Look, find, faults-in, types-in, links-in, ty-in, check, locals, of-item}
-use Rattle.semantics.specs.Theorems.{Each, One, Among, Part, part, parts, all-parts, item-parts, Stands-in, Within-line, Links-mean, Means, Leads, name-in, type-words, field-types}
+use Rattle.semantics.specs.Theorems.{Each, One, Among, Part, part, parts, all-parts, item-parts, Stands-in, Within-line, Links-mean, Bound-in-line, Means, Leads, name-in, type-words, field-types}
 use Rattle.semantics.proofs.Lists.{each-cat, each-map, each-of, each-at, one-of}
 use Rattle.semantics.proofs.Gather.{Says, Node, Faulty, On, Linked, item-says, Whole, item-tokens, field-names, token-in, Type-linked, Uses, use-link}
 use Rattle.semantics.proofs.Sits.{Sound, Rise, Named, Typeword, Fine, Fines, fine-sits, Placed, placed}
@@ -80,6 +80,34 @@ module _ (Q : Tok → Type 0) (n : ℕ) (here : Look) (there : Word → Word →
   tokens-sound (i-rec t fs) p = (p .0 .0, slots-sound fs (p .1) (p .2))
   tokens-sound (i-def t ps r e) p = (p .0 .0, (p .3 .0, slots-sound ps (p .1) (p .2)))
   tokens-sound (i-bad a b) p = tt
+  -- names bound in the line are pieces
+  abbrev pub Known-local : Local → Type 0
+  Known-local x = Q (x .name)
+  abbrev pub Known-part : Part → Type 0
+  Known-part p = Each Known-local (p .locals)
+  mutual
+    pub parts-bound : (g : List Local) (e : E) → Each Known-local g → Fine Q n e → Each Known-part (parts here there g e)
+    parts-bound g (e-num t) b f = (b, tt)
+    parts-bound g (e-name t) b f = (b, tt)
+    parts-bound g (e-call h es m) b f = (b, all-bound g es b (f .3))
+    parts-bound g (e-field e x) b f = (b, parts-bound g e b (f .0))
+    parts-bound g (e-op o x y) b f = (b, each-cat Known-part (parts here there g x) (parts here there g y) (parts-bound g x b (f .0)) (parts-bound g y b (f .1)))
+    parts-bound g (e-if m x y z) b f = (b, each-cat Known-part (parts here there g x) (parts here there g y ++ parts here there g z) (parts-bound g x b (f .0)) (each-cat Known-part (parts here there g y) (parts here there g z) (parts-bound g y b (f .1)) (parts-bound g z b (f .2))))
+    parts-bound g (e-let m v x y) b f = let l : Local = record { name = v; ty = ty-in (check here there g x) } in (b, each-cat Known-part (parts here there g x) (parts here there (l ∷ g) y) (parts-bound g x b (f .1)) (parts-bound (l ∷ g) y (f .0 .known, b) (f .2)))
+    parts-bound g (e-par m e k) b f = (b, parts-bound g e b (f .0))
+    all-bound : (g : List Local) (es : Es) → Each Known-local g → Fines Q n es → Each Known-part (all-parts here there g es)
+    all-bound g no b f = tt
+    all-bound g (and-then e es) b f = each-cat Known-part (parts here there g e) (all-parts here there g es) (parts-bound g e b (f .0)) (all-bound g es b (f .1))
+  locals-known : (ps : List Field) (g : List Local) → Each (Named Q n) (field-names ps) → Each Known-local g → Each Known-local (locals here ps g)
+  locals-known [] g h b = b
+  locals-known (x ∷ xs) g h b = locals-known xs _ (h .1) (h .0 .0 .known, b)
+  pub item-bound : (it : Item) → Placed Q n it → Each Known-part (item-parts here there it)
+  item-bound nothing p = tt
+  item-bound (i-use t) p = tt
+  item-bound (i-kind t cs) p = tt
+  item-bound (i-rec t fs) p = tt
+  item-bound (i-def t ps r e) p = parts-bound (locals here ps []) e (locals-known ps [] (p .1) tt) (p .4)
+  item-bound (i-bad a b) p = tt
 -- a word for a type that isn't num or bool is a name
 type-name : (w : Word) → is-type w ≡ true → same w k-num ≡ false → same w k-bool ≡ false → is-name w ≡ true
 type-name w e p q = go (same w k-num) (same w k-bool) (is-name w) e p q
@@ -132,3 +160,5 @@ within-line me here there file-there before l =
     (s .faults, s .types, each-map (PL me here there file-there before l) (λ k. Stands-in (length (l .bytes)) (k .from) (k .to)) (links-in (of-item me here there file-there before (item l))) (λ k h. h .0) (s .links))
 pub links-mean : Links-mean
 links-mean me here there file-there before l = each-map (PL me here there file-there before l) (Right me here there file-there before l) (links-in (of-item me here there file-there before (item l))) (λ k h. h .1) (line-says me here there file-there before l .links)
+pub bound-in-line : Bound-in-line
+bound-in-line here there l = item-bound (λ t. Among t (pieces l)) (length (l .bytes)) here there (item l) (line-placed [] here there (λ w. false) [] l)

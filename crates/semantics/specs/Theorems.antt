@@ -148,6 +148,9 @@ Means me here there file-there it t k =
 abbrev pub Links-mean : Type 0
 Links-mean = (me : Word) (here : Look) (there : Word → Word → Sig) (file-there : Word → Bool) (before : List Word) (l : Line) →
     Each (λ k. (t : Tok) × Among t (pieces l) × (is-name (t .w) ≡ true) × (k .from ≡ t .from) × (k .to ≡ t .to) × Means me here there file-there (item l) t k) (links-in (of-item me here there file-there before (item l)))
+-- What is bound in a line where an expression stands are names in pieces of that line: its parameters, and its lets.
+abbrev pub Bound-in-line : Type 0
+Bound-in-line = (here : Look) (there : Word → Word → Sig) (l : Line) → Each (λ p. Each (λ x. Among (x .name) (pieces l)) (p .locals)) (item-parts here there (item l))
 
 -- What is answered depends on what the lines of files say, where they begin and how long they are, and on nothing else: where two projects
 -- are alike in that, every answer is the same. So what stands in a note or between pieces is never looked at.

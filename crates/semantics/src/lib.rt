@@ -1,2 +1,2 @@
-// (in work)
+// What names mean and what is said of a line: the theorems about the definitions in specs/.
 pub mod theorems;

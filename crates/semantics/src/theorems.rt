@@ -1,6 +1,6 @@
 // Each function is there for its contract, which is a theorem of specs/Promise or specs/Theorems.
 ghost use Rattle.semantics.specs.Promise.{Line-said};
-ghost use Rattle.semantics.specs.Theorems.{Untyped-unblamed, Types-mean, Within-line, Fault-numbers, Little-said, Faults-in-text, Links-mean, Items-only};
+ghost use Rattle.semantics.specs.Theorems.{Untyped-unblamed, Types-mean, Within-line, Fault-numbers, Little-said, Faults-in-text, Links-mean, Bound-in-line, Items-only};
 
 // The walk over a line's code says what the definition says of the line, and asks little.
 pub fn line_said() -> u8
@@ -33,6 +33,13 @@ pub fn within_line() -> u8
 // Each link of a line stands at a name, and goes to what the name means there.
 pub fn links_mean() -> u8
     ensures { λ _. ⌜ Links-mean ⌝ }
+{
+    0
+}
+
+// Names bound in a line are pieces of it.
+pub fn bound_in_line() -> u8
+    ensures { λ _. ⌜ Bound-in-line ⌝ }
 {
     0
 }
