@@ -1,18 +1,18 @@
 -- In how many pieces each byte of a line lies.
 use mathlib.Core.Path.{_≡_, refl, sym, ap, _∙_}
-use mathlib.Core.Bool.{Bool, true, false, _&&_, _||_}
+use mathlib.Core.Bool.{Bool, true, false, _||_}
 use mathlib.Core.List.{List, [], _∷_, _++_}
 use Prim.Native.Nat.{ℕ, zero, suc, _+_, _≤_, _<_}
 use native.Mathlib.Omega.{arith}
 use native.Mathlib.Numerals.{add-one}
-use lib.Dec.{eqb, leb, ltb}
+use lib.Dec.{eqb}
 use lib.ListN.{length, getD, take}
 use borrow.Author.Tests.{ne-eqb, eq-eqb}
 use Rattle.std.proofs.shelf.Tests.{both-ways}
 use Rattle.std.proofs.shelf.Ways.{tells}
 use Rattle.base.specs.Base.{pick, Word, any-of}
-use Rattle.lexer.specs.Tokens.{Tok, Mode, gap, in-word, equals, note, letter, blank, toks}
-use Rattle.lexer.specs.Theorems.{between, pieces-at, in-note, Bytes-covered}
+use Rattle.lexer.specs.Tokens.{Mode, gap, in-word, equals, note, letter, blank, toks}
+use Rattle.lexer.specs.Theorems.{between, pieces-at, Bytes-covered}
 use Rattle.lexer.proofs.Steps.{by, after, word-goes, word-ends, equals-ends, equals-twice}
 
 -- 1 at a place, and else 0

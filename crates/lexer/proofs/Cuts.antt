@@ -1,15 +1,15 @@
 -- A text cut into lines, over a place in it, as the loop has it.
-use mathlib.Core.Path.{_≡_, refl, sym, ap, subst, _∙_}
+use mathlib.Core.Path.{_≡_, sym, ap, _∙_}
 use mathlib.Core.Bool.{Bool, true, false}
 use mathlib.Core.List.{List, [], _∷_, _++_}
 use Prim.Native.Nat.{ℕ, _+_, _-_, _≤_, _<_}
 use native.Mathlib.Omega.{arith}
-use lib.Dec.{eqb, ltb}
-use lib.ListN.{length, getD, take, drop, length-drop, length-take}
+use lib.Dec.{eqb}
+use lib.ListN.{length, getD, drop, length-drop}
 use borrow.Author.Tests.{ne-eqb, eq-eqb, lt-ltb, le-ltb}
 use Rattle.std.proofs.shelf.Lists.{at-drop-more, at-drop-all, length-take-le}
 use Rattle.base.specs.Base.{pick}
-use Rattle.lexer.specs.Tokens.{Line, cut}
+use Rattle.lexer.specs.Tokens.{cut}
 use Rattle.lexer.specs.Lines.{lines-from, line-of, lines-behind}
 use Rattle.lexer.proofs.Places.{part, part-more}
 

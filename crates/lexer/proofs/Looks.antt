@@ -1,13 +1,13 @@
 -- A piece of some bytes is never the end.
 use mathlib.Core.Path.{_≡_, refl, sym, ap, subst, _∙_}
-use mathlib.Core.Bool.{Bool, true, false, _&&_, _||_}
+use mathlib.Core.Bool.{Bool, true, false, _||_}
 use mathlib.Core.List.{List, [], _∷_}
-use Prim.Native.Nat.{ℕ, _+_, _-_, _≤_, _<_}
+use Prim.Native.Nat.{ℕ, _-_, _≤_, _<_}
 use native.Mathlib.Omega.{arith}
 use lib.ListN.{length, take, drop, length-take, length-drop}
 use Rattle.std.proofs.shelf.Tests.{or-parts}
 use Rattle.base.specs.Base.{pick, Word, same}
-use Rattle.lexer.specs.Tokens.{left, piece, next, letter}
+use Rattle.lexer.specs.Tokens.{left, next, letter}
 use Rattle.lexer.specs.Words.{k-use, k-kind, k-rec, k-def, k-let, k-in, k-if, k-then, k-else, k-and, k-or, k-num, k-bool, t-lp, t-rp, t-comma, t-gets, t-is, t-less, t-plus, t-minus, t-times, t-dot, is-number, digits}
 use Rattle.lexer.specs.Kinds.{token-of}
 use Rattle.lexer.specs.Seen.{NextAt, is-end, Stands, StandsIf}
@@ -39,7 +39,7 @@ never-end [] h = absurd (omega (arith, h))
 never-end (c ∷ cs) h =
     let w = c ∷ cs in
     chosen
-    ( (same w k-use, Use) ∷ (same w k-kind, Kind) ∷ (same w k-rec, Rec) ∷ (same w k-def, Def) ∷ (same w k-let, Let)
+    ((same w k-use, Use) ∷ (same w k-kind, Kind) ∷ (same w k-rec, Rec) ∷ (same w k-def, Def) ∷ (same w k-let, Let)
     ∷ (same w k-in, In) ∷ (same w k-if, If) ∷ (same w k-then, Then) ∷ (same w k-else, Else) ∷ (same w k-and, Sign And)
     ∷ (same w k-or, Sign Or) ∷ (same w k-num, Num) ∷ (same w k-bool, TypeBool) ∷ (same w t-lp, Open) ∷ (same w t-rp, Close)
     ∷ (same w t-comma, Comma) ∷ (same w t-gets, Gets) ∷ (same w t-dot, Dot) ∷ (same w t-is, Sign Equal) ∷ (same w t-less, Sign Less)

@@ -1,6 +1,6 @@
 -- The same, over a line and a place in it, as the loops have them.
-use mathlib.Core.Path.{_≡_, refl, sym, ap, subst, _∙_}
-use mathlib.Core.Bool.{Bool, true, false}
+use mathlib.Core.Path.{_≡_, refl, sym, ap, _∙_}
+use mathlib.Core.Bool.{true, false}
 use mathlib.Core.List.{List, [], _∷_, _++_}
 use Prim.Native.Nat.{ℕ, _+_, _-_, _≤_, _<_}
 use native.Mathlib.Omega.{arith}
@@ -12,7 +12,7 @@ use borrow.Author.Tests.{ne-eqb, eq-eqb}
 use Rattle.std.proofs.shelf.Lists.{at-drop-more, at-drop-all, take-more}
 use Rattle.std.proofs.shelf.Tests.{both-ways, cases-lt}
 use Rattle.base.specs.Base.{Word}
-use Rattle.lexer.specs.Tokens.{Tok, tok, gap, in-word, equals, letter, blank, toks}
+use Rattle.lexer.specs.Tokens.{tok, gap, in-word, equals, letter, blank, toks}
 use Rattle.lexer.proofs.Steps.{skip-blank, word-begins, word-goes, word-ends, note-begins, equals-begins, equals-ends, equals-twice, other-alone}
 
 pub no-note : (c : ℕ) → letter c ≡ true → eqb c 35 ≡ false

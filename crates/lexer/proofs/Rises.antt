@@ -5,12 +5,12 @@ use mathlib.Core.List.{List, [], _∷_, _++_}
 use Prim.Native.Nat.{ℕ, suc, _+_, _-_, _≤_, _<_}
 use native.Mathlib.Omega.{arith}
 use lib.Dec.{eqb}
-use lib.ListN.{length, getD, take, drop, length-drop}
+use lib.ListN.{length, getD, drop, length-drop}
 use borrow.Author.Tests.{eqb-true}
 use Rattle.std.proofs.shelf.Lists.{drop-more}
 use Rattle.base.specs.Base.{Word}
-use Rattle.lexer.specs.Tokens.{Tok, tok, Mode, gap, in-word, equals, note, letter, blank, toks}
-use Rattle.lexer.specs.Theorems.{Lies, Rising, Pieces-rise}
+use Rattle.lexer.specs.Tokens.{Mode, gap, in-word, equals, note, letter, blank, toks}
+use Rattle.lexer.specs.Theorems.{Rising, Pieces-rise}
 use Rattle.lexer.proofs.Steps.{by, after, word-goes, word-ends, equals-ends, equals-twice}
 use Rattle.lexer.proofs.Places.{part, part-more, one-long}
 
@@ -34,9 +34,10 @@ module _ (line : List ℕ) (at c : ℕ) (cs : List ℕ) (inside : at < length li
   by-tests lo false true l e h q = on lo note tt
   by-tests lo false false true e h q = on lo (in-word (c ∷ []) at) (h, omega arith, single)
   by-tests lo false false false true h q = on lo (equals at) (h, omega arith, ap (λ x. x ∷ []) (sym (q refl)) ∙ single)
-  by-tests lo false false false false h q =
-      ( record { behind = h; some-bytes = omega arith; within = omega arith; bytes = single }
-      , on (at + 1) gap (omega arith))
+  by-tests lo false false false false h q = (
+    record { behind = h; some-bytes = omega arith; within = omega arith; bytes = single },
+    on (at + 1) gap (omega arith),
+  )
 
   from-gap : (lo : ℕ) → lo ≤ at → Rising line lo (toks gap at (c ∷ cs))
   from-gap lo h = by-tests lo (blank c) (eqb c 35) (letter c) (eqb c 61) h (eqb-true c 61)
@@ -49,9 +50,10 @@ module _ (line : List ℕ) (at c : ℕ) (cs : List ℕ) (inside : at < length li
 
   from-equals : (lo f : ℕ) (b : Bool) → eqb c 61 ≡ b → lo ≤ f → f < at → 61 ∷ [] ≡ part line f at → Rising line lo (toks (equals f) at (c ∷ cs))
   from-equals lo f true p h l e =
-      subst (λ ts. Rising line lo ts) (sym (equals-twice f at c cs p))
-      ( record { behind = h; some-bytes = omega arith; within = omega arith; bytes = ap (λ x. 61 ∷ x ∷ []) (sym (eqb-true c 61 p)) ∙ more (61 ∷ []) f l e }
-      , on (at + 1) gap (omega arith))
+      subst (λ ts. Rising line lo ts) (sym (equals-twice f at c cs p)) (
+        record { behind = h; some-bytes = omega arith; within = omega arith; bytes = ap (λ x. 61 ∷ x ∷ []) (sym (eqb-true c 61 p)) ∙ more (61 ∷ []) f l e },
+        on (at + 1) gap (omega arith),
+      )
   from-equals lo f false p h l e =
       subst (λ ts. Rising line lo ts) (sym (equals-ends f at c cs p)) (record { behind = h; some-bytes = l; within = omega arith; bytes = e }, from-gap at (omega arith))
 

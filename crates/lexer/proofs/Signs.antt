@@ -2,12 +2,12 @@
 use mathlib.Core.Path.{_≡_, refl, sym, ap, _∙_}
 use mathlib.Core.Bool.{Bool, true, false, _&&_, _||_}
 use mathlib.Core.List.{List, [], _∷_}
-use Prim.Native.Nat.{ℕ, _+_, _≤_, _<_}
+use Prim.Native.Nat.{ℕ, _≤_, _<_}
 use native.Mathlib.Omega.{arith}
 use Rattle.std.proofs.shelf.Ways.{tells}
 use lib.Dec.{eqb, leb}
 use lib.ListN.{length, getD}
-use borrow.Author.Tests.{ne-eqb, eq-eqb}
+use borrow.Author.Tests.{ne-eqb}
 use Rattle.std.proofs.shelf.Tests.{both-ways}
 use Rattle.base.specs.Base.{pick, Word, same}
 use Rattle.lexer.specs.Tokens.{letter}
@@ -16,7 +16,7 @@ use Rattle.lexer.specs.Kinds.{token-of}
 use Rattle.lexer.specs.Parts.{keyword, sign, digit, small}
 use Rattle.lexer.specs.declared.token.Operator.the-variants.{Plus, Minus, Times, Equal, Less}
 use Rattle.lexer.specs.declared.token.Token.{Token}
-use Rattle.lexer.specs.declared.token.Token.the-variants.{Open, Close, Comma, Gets, Dot, Sign, Number, BadNumber, Name, Other}
+use Rattle.lexer.specs.declared.token.Token.the-variants.{Open, Close, Comma, Gets, Dot, Sign, Other}
 
 and-no : (b : Bool) → (b && false) ≡ false
 and-no true = refl

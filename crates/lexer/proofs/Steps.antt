@@ -1,12 +1,11 @@
 -- What one byte does to the pieces that are left.
-use mathlib.Core.Path.{_≡_, refl, sym, ap, _∙_}
+use mathlib.Core.Path.{_≡_, refl, ap, _∙_}
 use mathlib.Core.Bool.{Bool, true, false}
 use mathlib.Core.List.{List, [], _∷_, _++_}
-use Prim.Native.Nat.{ℕ, _+_, _-_, _≤_, _<_}
+use Prim.Native.Nat.{ℕ, _+_}
 use lib.Dec.{eqb}
-use lib.ListN.{length, getD, take, drop}
 use Rattle.base.specs.Base.{pick, Word}
-use Rattle.lexer.specs.Tokens.{Tok, tok, Mode, gap, in-word, equals, note, letter, blank, Turn, turn, fresh, turns, toks}
+use Rattle.lexer.specs.Tokens.{Tok, tok, gap, in-word, equals, note, letter, blank, Turn, turn, fresh, toks}
 
 pub skip-blank : (at c : ℕ) (cs : List ℕ) → blank c ≡ true → toks gap at (c ∷ cs) ≡ toks gap (at + 1) cs
 skip-blank at c cs e = simp e

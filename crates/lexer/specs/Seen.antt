@@ -23,6 +23,7 @@ pub record NoneAt (line : List ℕ) (at from to : ℕ) : Type 0 where
   pub to-is : to ≡ at
   pub reads : left line at ≡ []
 
+-- whether a token stands for no piece
 abbrev pub is-end : Token → Bool
 is-end Use = false
 is-end Kind = false
@@ -47,11 +48,12 @@ is-end Name = false
 is-end Other = false
 is-end End = true
 
+-- where it stands, by whether it is the end
 abbrev pub StandsIf : Bool → List ℕ → ℕ → ℕ → ℕ → Type 0
 StandsIf true line at from to = NoneAt line at from to
 StandsIf false line at from to = NextAt line at from to
 
--- where a token stands: between the two places, unless it is the end
+-- where a token stands: it is the next piece, between the two places, or else the end
 abbrev pub Stands : Token → List ℕ → ℕ → ℕ → ℕ → Type 0
 Stands t line at from to = StandsIf (is-end t) line at from to
 

@@ -14,6 +14,7 @@ pub record Lies (line : List ℕ) (at : ℕ) (t : Tok) : Type 0 where
   pub some-bytes : t .from < t .to
   pub within : t .to ≤ length line
   pub bytes : t .w ≡ take (t .to - t .from) (drop (t .from) line)
+
 -- each at or behind the end of the one before
 abbrev pub Rising : List ℕ → ℕ → List Tok → Type 0
 Rising line at [] = Unit
@@ -26,10 +27,12 @@ Pieces-rise = (line : List ℕ) → Rising line 0 (toks gap 0 line)
 -- 1 if a byte lies between two places, else 0
 abbrev pub between : ℕ → ℕ → ℕ → ℕ
 between from to i = pick (leb from i && ltb i to) 1 0
+
 -- in how many pieces a byte lies
 abbrev pub pieces-at : ℕ → List Tok → ℕ
 pieces-at i [] = 0
 pieces-at i (t ∷ ts) = between (t .from) (t .to) i + pieces-at i ts
+
 -- whether a byte stands in a note: it is a #, or one stands before it
 abbrev pub in-note : List ℕ → ℕ → Bool
 in-note line i = any-of (λ c. eqb c 35) (take (i + 1) line)

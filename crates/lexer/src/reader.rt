@@ -7,8 +7,15 @@ ghost use lib.ListN.{length, getD, take, drop};
 ghost use Rattle.std.specs.Options.{Cases as BySome};
 ghost use Rattle.lexer.specs.Tokens.{letter, blank, left, piece, «end-of»};
 ghost use Rattle.lexer.specs.Seen.{NextAt, SeenSays};
-use crate::bytes::{is_blank, is_letter};
-use crate::token::{token_of, Token};
+use crate::bytes::is_blank;
+use crate::bytes::is_letter;
+use crate::token::Token;
+use crate::token::token_of;
+
+// The byte that begins a note, which goes on to the line's end.
+const NOTE: u32 = 35;
+// The byte =, which makes one piece with a second one.
+const EQUALS: u32 = 61;
 
 // A piece of a line: a part of it, from a place to the place behind it.
 #[derive(Clone, Copy)]
@@ -65,7 +72,7 @@ fn piece_end(line: &[u32], from: usize) -> usize
 {
     if is_letter(line[from]) {
         word_end(line, from)
-    } else if line[from] == 61 && from + 1 < line.len() && line[from + 1] == 61 {
+    } else if line[from] == EQUALS && from + 1 < line.len() && line[from + 1] == EQUALS {
         from + 2
     } else {
         from + 1
@@ -83,13 +90,17 @@ impl<'a> Reader<'a> {
     {
         let line = self.line;
         let from = blanks_end(line, self.at);
-        if from >= line.len() || line[from] == 35 {
+        if from >= line.len() || line[from] == NOTE {
             self.at = line.len();
             return None;
         }
         let to = piece_end(line, from);
         self.at = to;
-        Some(Piece { text: &line[from..to], from, to })
+        Some(Piece {
+            text: &line[from..to],
+            from,
+            to,
+        })
     }
 }
 
@@ -107,8 +118,16 @@ pub fn peek(line: &[u32], at: usize) -> Seen
 {
     let mut reader = Reader { line, at };
     match reader.next() {
-        Some(p) => Seen { token: token_of(p.text), from: p.from, to: p.to },
-        None => Seen { token: Token::End, from: at, to: at },
+        Some(p) => Seen {
+            token: token_of(p.text),
+            from: p.from,
+            to: p.to,
+        },
+        None => Seen {
+            token: Token::End,
+            from: at,
+            to: at,
+        },
     }
 }
 

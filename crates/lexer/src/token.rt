@@ -3,7 +3,9 @@ ghost use mathlib.Core.Path.{_≡_};
 ghost use Rattle.lexer.specs.Words.{digits};
 ghost use Rattle.lexer.specs.Kinds.{«token-of»};
 ghost use Rattle.lexer.specs.Parts.{keyword, number, sign};
-use crate::bytes::{is_digit, is_letter, is_small};
+use crate::bytes::is_digit;
+use crate::bytes::is_letter;
+use crate::bytes::is_small;
 use base::same_word;
 
 // The operators of an expression.
@@ -105,7 +107,11 @@ fn sign(c: u32) -> Token
 fn number(w: &[u32]) -> Token
     ensures { λ r. ⌜ r ≡ number (now (w .entry)) ⌝ }
 {
-    if all_digits(w) { Token::Number } else { Token::BadNumber }
+    if all_digits(w) {
+        Token::Number
+    } else {
+        Token::BadNumber
+    }
 }
 
 // Whether every byte is a digit.

@@ -3,7 +3,7 @@ ghost use denote.Ref.{now};
 ghost use mathlib.Core.Path.{_≡_};
 ghost use mathlib.Core.List.{List, [], _∷_, _++_};
 ghost use Prim.Native.Nat.{ℕ, _+_, _*_, _<_, _≤_};
-ghost use lib.ListN.{length, getD, take, drop};
+ghost use lib.ListN.{length, getD, take};
 ghost use Rattle.lexer.specs.Kinds.{operator};
 ghost use Rattle.grammar.specs.Machine.{patch};
 ghost use Rattle.parser.specs.Rows.{«sign-of», «op-of», ops, «ops-of», «op-is», «frames-of»};
@@ -72,6 +72,9 @@ pub fn sign(a: u32) -> Operator
     }
 }
 
+// The tag of a call, which is written again once its arguments are counted.
+const CALL: u32 = 2;
+
 // The words of an operation.
 fn pack(op: Op) -> [u32; 5]
     ensures { λ r. ⌜ ((line : List ℕ) → ops line r ≡ «op-is» line op ∷ []) ⌝ }
@@ -79,7 +82,7 @@ fn pack(op: Op) -> [u32; 5]
     match op {
         Op::Number(s) => [0, s.from, s.to, 0, 0],
         Op::Name(s) => [1, s.from, s.to, 0, 0],
-        Op::Call(s, k) => [2, s.from, s.to, k, 0],
+        Op::Call(s, k) => [CALL, s.from, s.to, k, 0],
         Op::Arg => [3, 0, 0, 0, 0],
         Op::End(a) => [4, a, 0, 0, 0],
         Op::Field(s) => [5, s.from, s.to, 0, 0],
@@ -107,7 +110,7 @@ fn unpack(tag: u32, a: u32, b: u32, c: u32, d: u32) -> Op
     match tag {
         0 => Op::Number(s),
         1 => Op::Name(s),
-        2 => Op::Call(s, c),
+        CALL => Op::Call(s, c),
         3 => Op::Arg,
         4 => Op::End(a),
         5 => Op::Field(s),
@@ -144,7 +147,13 @@ pub fn op_at(words: &[u32], base: usize, i: usize) -> Op
     ensures { λ r. ⌜ ((line : List ℕ) → «op-is» line r ≡ «op-of» line (getD (now (words .entry)) (base + 5 * i) 0) (getD (now (words .entry)) (base + 5 * i + 1) 0) (getD (now (words .entry)) (base + 5 * i + 2) 0) (getD (now (words .entry)) (base + 5 * i + 3) 0) (getD (now (words .entry)) (base + 5 * i + 4) 0)) ⌝ }
 {
     let j = base + 5 * i;
-    unpack(words[j], words[j + 1], words[j + 2], words[j + 3], words[j + 4])
+    unpack(
+        words[j],
+        words[j + 1],
+        words[j + 2],
+        words[j + 3],
+        words[j + 4],
+    )
 }
 
 // The call that begins at operation p, if one does, has k arguments.
@@ -156,7 +165,7 @@ pub fn patch_count(words: &mut [u32], base: usize, n: usize, p: usize, k: u32)
 {
     if p < n {
         let i = base + 5 * p;
-        if words[i] == 2 {
+        if words[i] == CALL {
             words[i + 3] = k;
         }
     }

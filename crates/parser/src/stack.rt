@@ -1,14 +1,14 @@
 // The stack in words: four words a frame, from the row's end downwards.
 ghost use denote.Ref.{now};
 ghost use mathlib.Core.Path.{_≡_};
-ghost use mathlib.Core.List.{List, [], _∷_, _++_};
+ghost use mathlib.Core.List.{List, [], _∷_};
 ghost use Prim.Native.Nat.{ℕ, _+_, _*_, _-_, _<_, _≤_};
-ghost use lib.ListN.{length, getD, take, drop};
-ghost use Rattle.parser.specs.Rows.{«frame-of», frames, «frames-of», «frame-is», «ops-of»};
-use lexer::token::Operator;
+ghost use lib.ListN.{length, take};
+ghost use Rattle.parser.specs.Rows.{«frame-of», frames, «frames-of», «frame-is»};
 use crate::code::Span;
 use crate::code::number_of;
 use crate::code::sign;
+use lexer::token::Operator;
 
 // What waits for a value: brackets that began here; a call, where in the code it begins and how many arguments it has so far;
 // a let that began here, its name's value and its body; an if that began here, its condition and its branches; an operator's right side.

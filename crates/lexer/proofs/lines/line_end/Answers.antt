@@ -4,10 +4,11 @@ use Rattle.lexer.proofs.Cuts.{line-more, line-stops, line-at-end}
 use Rattle.lexer.proofs.lines.line_end.Needs as need
 
 pub loop-i-again : need.loop-i-again
-loop-i-again c =
-    ( omega arith
-    , (λ _. omega arith)
-    , c .loop-i .inv .2 ∙ line-more (c .args .text .now) (c .args .from) (c .loop-i .i) (c .loop-i .inv .0) (c .loop-i-test .taken) (c .if-text-i-ne-NEWLINE .taken))
+loop-i-again c = (
+  omega arith,
+  (λ _. omega arith),
+  c .loop-i .inv .2 ∙ line-more (c .args .text .now) (c .args .from) (c .loop-i .i) (c .loop-i .inv .0) (c .loop-i-test .taken) (c .if-text-i-ne-NEWLINE .taken),
+)
 
 pub returns-else-text-i-ne-NEWLINE : need.returns-else-text-i-ne-NEWLINE
 returns-else-text-i-ne-NEWLINE c =

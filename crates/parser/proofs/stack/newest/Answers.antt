@@ -1,7 +1,6 @@
 use mathlib.Core.Path.{_∙_, ap, sym}
 use mathlib.Core.List.{_∷_}
 use Prim.Native.Nat.{_-_}
-use borrow.Author.Needs.{needs}
 use Rattle.parser.specs.Rows.{frames-of}
 use Rattle.parser.proofs.Words.{newest-is}
 use Rattle.parser.proofs.stack.newest.Needs as need

@@ -1,7 +1,6 @@
-use native.Mathlib.Omega.{arith}
 use borrow.Author.Needs.{needs}
-use lib.ListN.{length, length-drop}
-use mathlib.Core.Path.{_≡_, _∙_, ap}
+use lib.ListN.{length}
+use mathlib.Core.Path.{_≡_}
 use Rattle.parser.specs.Rows.{frame-is}
 use Rattle.parser.proofs.Words.{pushes}
 use Rattle.parser.proofs.stack.push.Needs as need

@@ -1,11 +1,10 @@
-use mathlib.Core.Path.{_≡_, refl, _∙_}
-use mathlib.Core.List.{[]}
+use mathlib.Core.Path.{refl, _∙_}
 use native.Mathlib.Omega.{arith}
 use Rattle.std.proofs.shelf.Lists.{at-drop-all}
 use Rattle.lexer.specs.Tokens.{gap, toks, left}
 use Rattle.lexer.proofs.Places.{note-at}
 use Rattle.lexer.proofs.reader.Reader.next.Needs as need
-use Rattle.lexer.proofs.reader.Reader.next.Needs.{then-from-line·by·then-from-line, then-from-line·by·else-from-line·then-line-from-eq35}
+use Rattle.lexer.proofs.reader.Reader.next.Needs.{then-from-line·by·then-from-line, then-from-line·by·else-from-line·then-line-from-eq-NOTE}
 
 pub returns-then-from-line : need.returns-then-from-line
 returns-then-from-line c =
@@ -16,11 +15,11 @@ returns-then-from-line c =
       line = refl;
       within = omega arith;
       reads =
-        told .same ∙
-        elim (c .then-from-line .came)
-        [ then-from-line·by·then-from-line w ↦ at-drop-all (toks gap i) xs i (w .if-from-line .taken)
-        | then-from-line·by·else-from-line·then-line-from-eq35 w ↦ note-at xs i (w .if-from-line .left) (told .stops (w .if-from-line .left)) (w .if-line-from-eq35 .taken)
-        ];
+          told .same ∙
+          elim (c .then-from-line .came) [
+            | then-from-line·by·then-from-line w ↦ at-drop-all (toks gap i) xs i (w .if-from-line .taken)
+            | then-from-line·by·else-from-line·then-line-from-eq-NOTE w ↦ note-at xs i (w .if-from-line .left) (told .stops (w .if-from-line .left)) (w .if-line-from-eq-NOTE .taken)
+          ];
       text = tt;
       behind = tt;
     }

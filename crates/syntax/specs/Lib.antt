@@ -1,0 +1,5 @@
+pub mod Wanted
+pub mod Reads
+pub mod Begins
+pub mod Line
+pub mod View
