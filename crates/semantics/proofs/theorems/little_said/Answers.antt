@@ -1,0 +1,6 @@
+-- Little-said.
+use Rattle.semantics.proofs.Numbers.{little-said}
+use Rattle.semantics.proofs.theorems.little_said.Needs as need
+
+pub returns : need.returns
+returns c = little-said
