@@ -28,9 +28,11 @@ pub data Op : Type 0 where
   o-result : Tok → Op
   o-body : Op
   o-bad : ℕ → ℕ → Op
+
 abbrev pub count : Es → ℕ
 count no = 0
 count (and-then e es) = suc (count es)
+
 -- an expression's code in front of what follows
 abbrev mutual
   pub onto : E → List Op → List Op
@@ -42,17 +44,22 @@ abbrev mutual
   onto (e-if n a b c) os = onto a (o-cond ∷ onto b (onto c (o-if n ∷ os)))
   onto (e-let n x a b) os = onto a (o-bind x ∷ onto b (o-let n ∷ os))
   onto (e-par n e m) os = onto e (o-par n m ∷ os)
+
   pub ontos : Es → List Op → List Op
   ontos no os = os
   ontos (and-then e es) os = onto e (o-arg ∷ ontos es os)
+
 abbrev pub code : E → List Op
 code e = onto e []
+
 abbrev pub consts-code : List Tok → List Op
 consts-code [] = []
 consts-code (t ∷ ts) = o-const t ∷ consts-code ts
+
 abbrev pub slots-onto : List Field → List Op → List Op
 slots-onto [] os = os
 slots-onto (x ∷ xs) os = o-slot x ∷ slots-onto xs os
+
 abbrev pub item-code : Item → List Op
 item-code nothing = []
 item-code (i-use t) = o-use t ∷ []

@@ -20,6 +20,7 @@ Depth-enough =
 -- one of these pieces goes from a to b
 abbrev pub Piece-at : ℕ → ℕ → List Tok → Type 0
 Piece-at a b ts = (us : List Tok) × (t : Tok) × (vs : List Tok) × (ts ≡ us ++ (t ∷ vs)) × (a ≡ t .from) × (b ≡ t .to)
+
 -- Where a line isn't understood, the place is one of its pieces, or the end of its last piece.
 abbrev pub Wrong-place : Type 0
 Wrong-place = (ts : List Tok) (a b : ℕ) → item-of ts ≡ i-bad a b → Piece-at a b ts ⊎ ((a ≡ end-of ts) × (b ≡ end-of ts))
@@ -27,9 +28,11 @@ Wrong-place = (ts : List Tok) (a b : ℕ) → item-of ts ≡ i-bad a b → Piece
 -- what a line says with every place set to 0
 abbrev pub bare-tok : Tok → Tok
 bare-tok t = tok (t .w) 0 0
+
 abbrev pub bares : List Tok → List Tok
 bares [] = []
 bares (t ∷ ts) = bare-tok t ∷ bares ts
+
 abbrev mutual
   pub bare-e : E → E
   bare-e (e-num t) = e-num (bare-tok t)
@@ -40,12 +43,15 @@ abbrev mutual
   bare-e (e-if n a b c) = e-if 0 (bare-e a) (bare-e b) (bare-e c)
   bare-e (e-let n x a b) = e-let 0 (bare-tok x) (bare-e a) (bare-e b)
   bare-e (e-par n e m) = e-par 0 (bare-e e) 0
+
   pub bare-es : Es → Es
   bare-es no = no
   bare-es (and-then e es) = and-then (bare-e e) (bare-es es)
+
 abbrev pub bare-fields : List Field → List Field
 bare-fields [] = []
 bare-fields (x ∷ xs) = record { name = bare-tok (x .name); ty = bare-tok (x .ty) } ∷ bare-fields xs
+
 abbrev pub bare : Item → Item
 bare nothing = nothing
 bare (i-use t) = i-use (bare-tok t)
@@ -53,10 +59,12 @@ bare (i-kind t cs) = i-kind (bare-tok t) (bares cs)
 bare (i-rec t fs) = i-rec (bare-tok t) (bare-fields fs)
 bare (i-def t ps r e) = i-def (bare-tok t) (bare-fields ps) (bare-tok r) (bare-e e)
 bare (i-bad a b) = i-bad 0 0
+
 -- the words of pieces
 abbrev pub words : List Tok → List Word
 words [] = []
 words (t ∷ ts) = t .w ∷ words ts
+
 -- What a line says depends on the words of its pieces only, but for places.
 abbrev pub Words-only : Type 0
 Words-only = (ts us : List Tok) → words ts ≡ words us → bare (item-of ts) ≡ bare (item-of us)
@@ -65,6 +73,7 @@ Words-only = (ts us : List Tok) → words ts ≡ words us → bare (item-of ts) 
 abbrev pub Apart : ℕ → List Tok → Type 0
 Apart n [] = Unit {0}
 Apart n (t ∷ ts) = ((t .to ≤ n) ⊎ (n ≤ t .from)) × Apart n ts
+
 -- A blank may be put in wherever it is not inside a piece: at a line's beginning or end, beside a blank, between two pieces, in a note.
 -- The words of the pieces stay the same, and so does what the line says, but for places.
 abbrev pub Blanks-free : Type 0

@@ -24,11 +24,22 @@ pub struct Totals {
 
 impl Totals {
     pub fn new(heap: Global) -> Totals {
-        Totals { files: 0, lines: 0, faults: 0, readable: true, row: Vec::new(heap) }
+        Totals {
+            files: 0,
+            lines: 0,
+            faults: 0,
+            readable: true,
+            row: Vec::new(heap),
+        }
     }
 
     // Goes over a file. One that can't be read is said on standard error, and the next ones are still read.
-    pub fn check_file<W: Write>(&mut self, rt: &LibcRuntime, path: &str, out: &mut W) -> Result<(), AnyError> {
+    pub fn check_file<W: Write>(
+        &mut self,
+        rt: &LibcRuntime,
+        path: &str,
+        out: &mut W,
+    ) -> Result<(), AnyError> {
         let bytes = match fs::read(rt, path) {
             Ok(bytes) => bytes,
             Err(e) => {
@@ -43,7 +54,13 @@ impl Totals {
     }
 
     // Goes over a text line by line. An empty line at its very end is none.
-    fn check_text<W: Write>(&mut self, heap: Global, path: &str, text: &[u32], out: &mut W) -> Result<(), AnyError> {
+    fn check_text<W: Write>(
+        &mut self,
+        heap: Global,
+        path: &str,
+        text: &[u32],
+        out: &mut W,
+    ) -> Result<(), AnyError> {
         let mut from = 0;
         for number in 1..u64::MAX {
             if from >= text.len() {
@@ -80,7 +97,10 @@ impl Totals {
     pub fn print<W: Write>(&self, rt: &LibcRuntime, out: &mut W) -> Result<(), AnyError> {
         let (files, lines, faults) = (self.files, self.lines, self.faults);
         let (f, l, w) = (plural(files), plural(lines), plural(faults));
-        let said = format!(rt.alloc(), "{files} file{f}, {lines} line{l}, {faults} fault{w}\n")?;
+        let said = format!(
+            rt.alloc(),
+            "{files} file{f}, {lines} line{l}, {faults} fault{w}\n"
+        )?;
         out.write_all(said.as_bytes())?;
         Ok(())
     }
@@ -100,7 +120,14 @@ fn widened(heap: Global, bytes: &[u8]) -> Result<Vec<u32>, AllocError> {
 }
 
 // The place and the fault, the line, and a mark under the place.
-fn print_fault<W: Write>(heap: Global, path: &str, number: u64, line: &[u32], place: Span, out: &mut W) -> Result<(), AnyError> {
+fn print_fault<W: Write>(
+    heap: Global,
+    path: &str,
+    number: u64,
+    line: &[u32],
+    place: Span,
+    out: &mut W,
+) -> Result<(), AnyError> {
     let column = u64::from(place.from) + 1;
     let head = format!(heap, "{path}:{number}:{column}: fault 1: not understood\n")?;
     out.write_all(head.as_bytes())?;

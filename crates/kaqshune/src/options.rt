@@ -31,6 +31,10 @@ impl Options {
         if files.is_empty() && !help {
             return Err("no file is named".into());
         }
-        Ok(Options { exit_zero, help, files })
+        Ok(Options {
+            exit_zero,
+            help,
+            files,
+        })
     }
 }

@@ -39,6 +39,7 @@ is-use BadNumber = false
 is-use Name = false
 is-use Other = false
 is-use End = false
+
 abbrev pub is-kind : Token → Bool
 is-kind Use = false
 is-kind Kind = true
@@ -62,6 +63,7 @@ is-kind BadNumber = false
 is-kind Name = false
 is-kind Other = false
 is-kind End = false
+
 abbrev pub is-rec : Token → Bool
 is-rec Use = false
 is-rec Kind = false
@@ -85,6 +87,7 @@ is-rec BadNumber = false
 is-rec Name = false
 is-rec Other = false
 is-rec End = false
+
 abbrev pub is-def : Token → Bool
 is-def Use = false
 is-def Kind = false
@@ -108,6 +111,7 @@ is-def BadNumber = false
 is-def Name = false
 is-def Other = false
 is-def End = false
+
 abbrev pub is-let : Token → Bool
 is-let Use = false
 is-let Kind = false
@@ -131,6 +135,7 @@ is-let BadNumber = false
 is-let Name = false
 is-let Other = false
 is-let End = false
+
 abbrev pub is-in : Token → Bool
 is-in Use = false
 is-in Kind = false
@@ -154,6 +159,7 @@ is-in BadNumber = false
 is-in Name = false
 is-in Other = false
 is-in End = false
+
 abbrev pub is-if : Token → Bool
 is-if Use = false
 is-if Kind = false
@@ -177,6 +183,7 @@ is-if BadNumber = false
 is-if Name = false
 is-if Other = false
 is-if End = false
+
 abbrev pub is-then : Token → Bool
 is-then Use = false
 is-then Kind = false
@@ -200,6 +207,7 @@ is-then BadNumber = false
 is-then Name = false
 is-then Other = false
 is-then End = false
+
 abbrev pub is-else : Token → Bool
 is-else Use = false
 is-else Kind = false
@@ -223,6 +231,7 @@ is-else BadNumber = false
 is-else Name = false
 is-else Other = false
 is-else End = false
+
 abbrev pub is-num : Token → Bool
 is-num Use = false
 is-num Kind = false
@@ -246,6 +255,7 @@ is-num BadNumber = false
 is-num Name = false
 is-num Other = false
 is-num End = false
+
 abbrev pub is-bool : Token → Bool
 is-bool Use = false
 is-bool Kind = false
@@ -269,6 +279,7 @@ is-bool BadNumber = false
 is-bool Name = false
 is-bool Other = false
 is-bool End = false
+
 abbrev pub is-open : Token → Bool
 is-open Use = false
 is-open Kind = false
@@ -292,6 +303,7 @@ is-open BadNumber = false
 is-open Name = false
 is-open Other = false
 is-open End = false
+
 abbrev pub is-close : Token → Bool
 is-close Use = false
 is-close Kind = false
@@ -315,6 +327,7 @@ is-close BadNumber = false
 is-close Name = false
 is-close Other = false
 is-close End = false
+
 abbrev pub is-comma : Token → Bool
 is-comma Use = false
 is-comma Kind = false
@@ -338,6 +351,7 @@ is-comma BadNumber = false
 is-comma Name = false
 is-comma Other = false
 is-comma End = false
+
 abbrev pub is-gets : Token → Bool
 is-gets Use = false
 is-gets Kind = false
@@ -361,6 +375,7 @@ is-gets BadNumber = false
 is-gets Name = false
 is-gets Other = false
 is-gets End = false
+
 abbrev pub is-dot : Token → Bool
 is-dot Use = false
 is-dot Kind = false
@@ -384,6 +399,7 @@ is-dot BadNumber = false
 is-dot Name = false
 is-dot Other = false
 is-dot End = false
+
 abbrev pub is-named : Token → Bool
 is-named Use = false
 is-named Kind = false
@@ -407,6 +423,7 @@ is-named BadNumber = false
 is-named Name = true
 is-named Other = false
 is-named End = false
+
 abbrev pub is-typed : Token → Bool
 is-typed Use = false
 is-typed Kind = false
@@ -430,6 +447,7 @@ is-typed BadNumber = false
 is-typed Name = true
 is-typed Other = false
 is-typed End = false
+
 abbrev pub is-digit : Token → Bool
 is-digit Use = false
 is-digit Kind = false
@@ -453,6 +471,7 @@ is-digit BadNumber = true
 is-digit Name = false
 is-digit Other = false
 is-digit End = false
+
 abbrev pub is-digits : Token → Bool
 is-digits Use = false
 is-digits Kind = false
@@ -476,6 +495,7 @@ is-digits BadNumber = false
 is-digits Name = false
 is-digits Other = false
 is-digits End = false
+
 -- the operator that a token is at a level
 abbrev pub op-in : ℕ → Token → Option ℕ
 op-in j Use = none
@@ -538,6 +558,7 @@ same-eq (x ∷ xs) (y ∷ ys) e = go (eqb x y) refl (same-eq xs ys) e
 -- an operator stands at one level only
 abbrev nothing : Option ℕ
 nothing = none
+
 nones : (a b c d e : Bool) → pick a nothing (pick b none (pick c none (pick d none (pick e none none)))) ≡ nothing
 nones true b c d e = refl
 nones false true c d e = refl
@@ -545,62 +566,89 @@ nones false false true d e = refl
 nones false false false true e = refl
 nones false false false false true = refl
 nones false false false false false = refl
+
 one-level : (j l : ℕ) (o : Option ℕ) (f : ℕ → Option ℕ) → ((k : ℕ) → eqb k l ≡ false → f k ≡ none) → f l ≡ o → f j ≡ pick (eqb j l) o none
 one-level j l o f p q = go (eqb j l) refl
   where
     go : (b : Bool) → eqb j l ≡ b → f j ≡ pick b o none
     go true e = ap f (eqb-true j l e) ∙ q
     go false e = p j e
+
 abbrev levels : Bool → Bool → Bool → Bool → Bool → Option ℕ → Bool → Bool → Option ℕ → Bool → Option ℕ
 levels j3 j1 j2 j4 j5 c r a m t = pick j3 c (pick j1 (when1 r (some 6)) (pick j2 (when1 a (some 5)) (pick j4 m (pick j5 (when1 t (some 2)) none))))
+
 use-facts : Facts k-use Use
 use-facts = record { use-is = refl; kind-is = refl; rec-is = refl; def-is = refl; let-is = refl; in-is = refl; if-is = refl; then-is = refl; else-is = refl; num-is = refl; bool-is = refl; open-is = refl; close-is = refl; comma-is = refl; gets-is = refl; dot-is = refl; name-is = refl; type-is = refl; number-is = refl; digits-is = λ e. absurd (false≢true e); op-is = λ j. nones (eqb j 3) (eqb j 1) (eqb j 2) (eqb j 4) (eqb j 5) }
+
 kind-facts : Facts k-kind Kind
 kind-facts = record { use-is = refl; kind-is = refl; rec-is = refl; def-is = refl; let-is = refl; in-is = refl; if-is = refl; then-is = refl; else-is = refl; num-is = refl; bool-is = refl; open-is = refl; close-is = refl; comma-is = refl; gets-is = refl; dot-is = refl; name-is = refl; type-is = refl; number-is = refl; digits-is = λ e. absurd (false≢true e); op-is = λ j. nones (eqb j 3) (eqb j 1) (eqb j 2) (eqb j 4) (eqb j 5) }
+
 rec-facts : Facts k-rec Rec
 rec-facts = record { use-is = refl; kind-is = refl; rec-is = refl; def-is = refl; let-is = refl; in-is = refl; if-is = refl; then-is = refl; else-is = refl; num-is = refl; bool-is = refl; open-is = refl; close-is = refl; comma-is = refl; gets-is = refl; dot-is = refl; name-is = refl; type-is = refl; number-is = refl; digits-is = λ e. absurd (false≢true e); op-is = λ j. nones (eqb j 3) (eqb j 1) (eqb j 2) (eqb j 4) (eqb j 5) }
+
 def-facts : Facts k-def Def
 def-facts = record { use-is = refl; kind-is = refl; rec-is = refl; def-is = refl; let-is = refl; in-is = refl; if-is = refl; then-is = refl; else-is = refl; num-is = refl; bool-is = refl; open-is = refl; close-is = refl; comma-is = refl; gets-is = refl; dot-is = refl; name-is = refl; type-is = refl; number-is = refl; digits-is = λ e. absurd (false≢true e); op-is = λ j. nones (eqb j 3) (eqb j 1) (eqb j 2) (eqb j 4) (eqb j 5) }
+
 let-facts : Facts k-let Let
 let-facts = record { use-is = refl; kind-is = refl; rec-is = refl; def-is = refl; let-is = refl; in-is = refl; if-is = refl; then-is = refl; else-is = refl; num-is = refl; bool-is = refl; open-is = refl; close-is = refl; comma-is = refl; gets-is = refl; dot-is = refl; name-is = refl; type-is = refl; number-is = refl; digits-is = λ e. absurd (false≢true e); op-is = λ j. nones (eqb j 3) (eqb j 1) (eqb j 2) (eqb j 4) (eqb j 5) }
+
 in-facts : Facts k-in In
 in-facts = record { use-is = refl; kind-is = refl; rec-is = refl; def-is = refl; let-is = refl; in-is = refl; if-is = refl; then-is = refl; else-is = refl; num-is = refl; bool-is = refl; open-is = refl; close-is = refl; comma-is = refl; gets-is = refl; dot-is = refl; name-is = refl; type-is = refl; number-is = refl; digits-is = λ e. absurd (false≢true e); op-is = λ j. nones (eqb j 3) (eqb j 1) (eqb j 2) (eqb j 4) (eqb j 5) }
+
 if-facts : Facts k-if If
 if-facts = record { use-is = refl; kind-is = refl; rec-is = refl; def-is = refl; let-is = refl; in-is = refl; if-is = refl; then-is = refl; else-is = refl; num-is = refl; bool-is = refl; open-is = refl; close-is = refl; comma-is = refl; gets-is = refl; dot-is = refl; name-is = refl; type-is = refl; number-is = refl; digits-is = λ e. absurd (false≢true e); op-is = λ j. nones (eqb j 3) (eqb j 1) (eqb j 2) (eqb j 4) (eqb j 5) }
+
 then-facts : Facts k-then Then
 then-facts = record { use-is = refl; kind-is = refl; rec-is = refl; def-is = refl; let-is = refl; in-is = refl; if-is = refl; then-is = refl; else-is = refl; num-is = refl; bool-is = refl; open-is = refl; close-is = refl; comma-is = refl; gets-is = refl; dot-is = refl; name-is = refl; type-is = refl; number-is = refl; digits-is = λ e. absurd (false≢true e); op-is = λ j. nones (eqb j 3) (eqb j 1) (eqb j 2) (eqb j 4) (eqb j 5) }
+
 else-facts : Facts k-else Else
 else-facts = record { use-is = refl; kind-is = refl; rec-is = refl; def-is = refl; let-is = refl; in-is = refl; if-is = refl; then-is = refl; else-is = refl; num-is = refl; bool-is = refl; open-is = refl; close-is = refl; comma-is = refl; gets-is = refl; dot-is = refl; name-is = refl; type-is = refl; number-is = refl; digits-is = λ e. absurd (false≢true e); op-is = λ j. nones (eqb j 3) (eqb j 1) (eqb j 2) (eqb j 4) (eqb j 5) }
+
 and-facts : Facts k-and (Sign And)
 and-facts = record { use-is = refl; kind-is = refl; rec-is = refl; def-is = refl; let-is = refl; in-is = refl; if-is = refl; then-is = refl; else-is = refl; num-is = refl; bool-is = refl; open-is = refl; close-is = refl; comma-is = refl; gets-is = refl; dot-is = refl; name-is = refl; type-is = refl; number-is = refl; digits-is = λ e. absurd (false≢true e); op-is = λ j. one-level j 2 (some 5) (λ j. op-any j k-and) (λ k e. ap (λ b. pick (eqb k 3) none (pick (eqb k 1) none (pick b (some 5) (pick (eqb k 4) none (pick (eqb k 5) none none))))) e ∙ nones (eqb k 3) (eqb k 1) false (eqb k 4) (eqb k 5)) refl }
+
 or-facts : Facts k-or (Sign Or)
 or-facts = record { use-is = refl; kind-is = refl; rec-is = refl; def-is = refl; let-is = refl; in-is = refl; if-is = refl; then-is = refl; else-is = refl; num-is = refl; bool-is = refl; open-is = refl; close-is = refl; comma-is = refl; gets-is = refl; dot-is = refl; name-is = refl; type-is = refl; number-is = refl; digits-is = λ e. absurd (false≢true e); op-is = λ j. one-level j 1 (some 6) (λ j. op-any j k-or) (λ k e. ap (λ b. pick (eqb k 3) none (pick b (some 6) (pick (eqb k 2) none (pick (eqb k 4) none (pick (eqb k 5) none none))))) e ∙ nones (eqb k 3) false (eqb k 2) (eqb k 4) (eqb k 5)) refl }
+
 num-facts : Facts k-num Num
 num-facts = record { use-is = refl; kind-is = refl; rec-is = refl; def-is = refl; let-is = refl; in-is = refl; if-is = refl; then-is = refl; else-is = refl; num-is = refl; bool-is = refl; open-is = refl; close-is = refl; comma-is = refl; gets-is = refl; dot-is = refl; name-is = refl; type-is = refl; number-is = refl; digits-is = λ e. absurd (false≢true e); op-is = λ j. nones (eqb j 3) (eqb j 1) (eqb j 2) (eqb j 4) (eqb j 5) }
+
 bool-facts : Facts k-bool TypeBool
 bool-facts = record { use-is = refl; kind-is = refl; rec-is = refl; def-is = refl; let-is = refl; in-is = refl; if-is = refl; then-is = refl; else-is = refl; num-is = refl; bool-is = refl; open-is = refl; close-is = refl; comma-is = refl; gets-is = refl; dot-is = refl; name-is = refl; type-is = refl; number-is = refl; digits-is = λ e. absurd (false≢true e); op-is = λ j. nones (eqb j 3) (eqb j 1) (eqb j 2) (eqb j 4) (eqb j 5) }
+
 open-facts : Facts t-lp Open
 open-facts = record { use-is = refl; kind-is = refl; rec-is = refl; def-is = refl; let-is = refl; in-is = refl; if-is = refl; then-is = refl; else-is = refl; num-is = refl; bool-is = refl; open-is = refl; close-is = refl; comma-is = refl; gets-is = refl; dot-is = refl; name-is = refl; type-is = refl; number-is = refl; digits-is = λ e. absurd (false≢true e); op-is = λ j. nones (eqb j 3) (eqb j 1) (eqb j 2) (eqb j 4) (eqb j 5) }
+
 close-facts : Facts t-rp Close
 close-facts = record { use-is = refl; kind-is = refl; rec-is = refl; def-is = refl; let-is = refl; in-is = refl; if-is = refl; then-is = refl; else-is = refl; num-is = refl; bool-is = refl; open-is = refl; close-is = refl; comma-is = refl; gets-is = refl; dot-is = refl; name-is = refl; type-is = refl; number-is = refl; digits-is = λ e. absurd (false≢true e); op-is = λ j. nones (eqb j 3) (eqb j 1) (eqb j 2) (eqb j 4) (eqb j 5) }
+
 comma-facts : Facts t-comma Comma
 comma-facts = record { use-is = refl; kind-is = refl; rec-is = refl; def-is = refl; let-is = refl; in-is = refl; if-is = refl; then-is = refl; else-is = refl; num-is = refl; bool-is = refl; open-is = refl; close-is = refl; comma-is = refl; gets-is = refl; dot-is = refl; name-is = refl; type-is = refl; number-is = refl; digits-is = λ e. absurd (false≢true e); op-is = λ j. nones (eqb j 3) (eqb j 1) (eqb j 2) (eqb j 4) (eqb j 5) }
+
 gets-facts : Facts t-gets Gets
 gets-facts = record { use-is = refl; kind-is = refl; rec-is = refl; def-is = refl; let-is = refl; in-is = refl; if-is = refl; then-is = refl; else-is = refl; num-is = refl; bool-is = refl; open-is = refl; close-is = refl; comma-is = refl; gets-is = refl; dot-is = refl; name-is = refl; type-is = refl; number-is = refl; digits-is = λ e. absurd (false≢true e); op-is = λ j. nones (eqb j 3) (eqb j 1) (eqb j 2) (eqb j 4) (eqb j 5) }
+
 dot-facts : Facts t-dot Dot
 dot-facts = record { use-is = refl; kind-is = refl; rec-is = refl; def-is = refl; let-is = refl; in-is = refl; if-is = refl; then-is = refl; else-is = refl; num-is = refl; bool-is = refl; open-is = refl; close-is = refl; comma-is = refl; gets-is = refl; dot-is = refl; name-is = refl; type-is = refl; number-is = refl; digits-is = λ e. absurd (false≢true e); op-is = λ j. nones (eqb j 3) (eqb j 1) (eqb j 2) (eqb j 4) (eqb j 5) }
+
 is-facts : Facts t-is (Sign Equal)
 is-facts = record { use-is = refl; kind-is = refl; rec-is = refl; def-is = refl; let-is = refl; in-is = refl; if-is = refl; then-is = refl; else-is = refl; num-is = refl; bool-is = refl; open-is = refl; close-is = refl; comma-is = refl; gets-is = refl; dot-is = refl; name-is = refl; type-is = refl; number-is = refl; digits-is = λ e. absurd (false≢true e); op-is = λ j. one-level j 3 (some 3) (λ j. op-any j t-is) (λ k e. ap (λ b. pick b (some 3) (pick (eqb k 1) none (pick (eqb k 2) none (pick (eqb k 4) none (pick (eqb k 5) none none))))) e ∙ nones false (eqb k 1) (eqb k 2) (eqb k 4) (eqb k 5)) refl }
+
 less-facts : Facts t-less (Sign Less)
 less-facts = record { use-is = refl; kind-is = refl; rec-is = refl; def-is = refl; let-is = refl; in-is = refl; if-is = refl; then-is = refl; else-is = refl; num-is = refl; bool-is = refl; open-is = refl; close-is = refl; comma-is = refl; gets-is = refl; dot-is = refl; name-is = refl; type-is = refl; number-is = refl; digits-is = λ e. absurd (false≢true e); op-is = λ j. one-level j 3 (some 4) (λ j. op-any j t-less) (λ k e. ap (λ b. pick b (some 4) (pick (eqb k 1) none (pick (eqb k 2) none (pick (eqb k 4) none (pick (eqb k 5) none none))))) e ∙ nones false (eqb k 1) (eqb k 2) (eqb k 4) (eqb k 5)) refl }
+
 plus-facts : Facts t-plus (Sign Plus)
 plus-facts = record { use-is = refl; kind-is = refl; rec-is = refl; def-is = refl; let-is = refl; in-is = refl; if-is = refl; then-is = refl; else-is = refl; num-is = refl; bool-is = refl; open-is = refl; close-is = refl; comma-is = refl; gets-is = refl; dot-is = refl; name-is = refl; type-is = refl; number-is = refl; digits-is = λ e. absurd (false≢true e); op-is = λ j. one-level j 4 (some 0) (λ j. op-any j t-plus) (λ k e. ap (λ b. pick (eqb k 3) none (pick (eqb k 1) none (pick (eqb k 2) none (pick b (some 0) (pick (eqb k 5) none none))))) e ∙ nones (eqb k 3) (eqb k 1) (eqb k 2) false (eqb k 5)) refl }
+
 minus-facts : Facts t-minus (Sign Minus)
 minus-facts = record { use-is = refl; kind-is = refl; rec-is = refl; def-is = refl; let-is = refl; in-is = refl; if-is = refl; then-is = refl; else-is = refl; num-is = refl; bool-is = refl; open-is = refl; close-is = refl; comma-is = refl; gets-is = refl; dot-is = refl; name-is = refl; type-is = refl; number-is = refl; digits-is = λ e. absurd (false≢true e); op-is = λ j. one-level j 4 (some 1) (λ j. op-any j t-minus) (λ k e. ap (λ b. pick (eqb k 3) none (pick (eqb k 1) none (pick (eqb k 2) none (pick b (some 1) (pick (eqb k 5) none none))))) e ∙ nones (eqb k 3) (eqb k 1) (eqb k 2) false (eqb k 5)) refl }
+
 times-facts : Facts t-times (Sign Times)
 times-facts = record { use-is = refl; kind-is = refl; rec-is = refl; def-is = refl; let-is = refl; in-is = refl; if-is = refl; then-is = refl; else-is = refl; num-is = refl; bool-is = refl; open-is = refl; close-is = refl; comma-is = refl; gets-is = refl; dot-is = refl; name-is = refl; type-is = refl; number-is = refl; digits-is = λ e. absurd (false≢true e); op-is = λ j. one-level j 5 (some 2) (λ j. op-any j t-times) (λ k e. ap (λ b. pick (eqb k 3) none (pick (eqb k 1) none (pick (eqb k 2) none (pick (eqb k 4) none (pick b (some 2) none))))) e ∙ nones (eqb k 3) (eqb k 1) (eqb k 2) (eqb k 4) false) refl }
+
 end-facts : Facts [] End
 end-facts = record { use-is = refl; kind-is = refl; rec-is = refl; def-is = refl; let-is = refl; in-is = refl; if-is = refl; then-is = refl; else-is = refl; num-is = refl; bool-is = refl; open-is = refl; close-is = refl; comma-is = refl; gets-is = refl; dot-is = refl; name-is = refl; type-is = refl; number-is = refl; digits-is = λ e. absurd (false≢true e); op-is = λ j. nones (eqb j 3) (eqb j 1) (eqb j 2) (eqb j 4) (eqb j 5) }
+
 none-left : (a : Bool) → (a && false) ≡ false
 none-left true = refl
 none-left false = refl
@@ -609,8 +657,10 @@ none-left false = refl
 module _ (w : Word) (h-use : same w k-use ≡ false) (h-kind : same w k-kind ≡ false) (h-rec : same w k-rec ≡ false) (h-def : same w k-def ≡ false) (h-let : same w k-let ≡ false) (h-in : same w k-in ≡ false) (h-if : same w k-if ≡ false) (h-then : same w k-then ≡ false) (h-else : same w k-else ≡ false) (h-and : same w k-and ≡ false) (h-or : same w k-or ≡ false) (h-num : same w k-num ≡ false) (h-bool : same w k-bool ≡ false) (h-open : same w t-lp ≡ false) (h-close : same w t-rp ≡ false) (h-comma : same w t-comma ≡ false) (h-gets : same w t-gets ≡ false) (h-dot : same w t-dot ≡ false) (h-is : same w t-is ≡ false) (h-less : same w t-less ≡ false) (h-plus : same w t-plus ≡ false) (h-minus : same w t-minus ≡ false) (h-times : same w t-times ≡ false) where
   not-kept : among w kept ≡ false
   not-kept = λ i. h-use i || (h-kind i || (h-rec i || (h-def i || (h-let i || (h-in i || (h-if i || (h-then i || (h-else i || (h-and i || (h-or i || (h-num i || (h-bool i || (false)))))))))))))
+
   no-op : (j : ℕ) → op-any j w ≡ none
   no-op j = (λ i. levels (eqb j 3) (eqb j 1) (eqb j 2) (eqb j 4) (eqb j 5) (or-else (when1 (h-is i) (some 3)) (when1 (h-less i) (some 4))) (h-or i) (h-and i) (or-else (when1 (h-plus i) (some 0)) (when1 (h-minus i) (some 1))) (h-times i)) ∙ nones (eqb j 3) (eqb j 1) (eqb j 2) (eqb j 4) (eqb j 5)
+
   plain-name : (a b : Bool) → letter (first w) ≡ a → is-number w ≡ b → is-name w ≡ (a && not b)
   plain-name a b p q = (λ i. p i && (not (q i) && not (not-kept i))) ∙ and-true a (not b)
     where
@@ -618,26 +668,32 @@ module _ (w : Word) (h-use : same w k-use ≡ false) (h-kind : same w k-kind ≡
       and-true true true = refl
       and-true true false = refl
       and-true false b = refl
+
   plain-type : (c : Bool) → is-name w ≡ c → is-type w ≡ c
   plain-type c p = λ i. h-num i || (h-bool i || p i)
+
   number-facts : is-number w ≡ true → digits w ≡ true → Facts w Number
   number-facts p q = record { use-is = h-use; kind-is = h-kind; rec-is = h-rec; def-is = h-def; let-is = h-let; in-is = h-in; if-is = h-if; then-is = h-then; else-is = h-else; num-is = h-num; bool-is = h-bool; open-is = h-open; close-is = h-close; comma-is = h-comma; gets-is = h-gets; dot-is = h-dot; name-is = nam; type-is = plain-type false nam; number-is = p; digits-is = λ e. q; op-is = no-op }
     where
       nam : is-name w ≡ false
       nam = plain-name (letter (first w)) true refl p ∙ none-left (letter (first w))
+
   bad-facts : is-number w ≡ true → digits w ≡ false → Facts w BadNumber
   bad-facts p q = record { use-is = h-use; kind-is = h-kind; rec-is = h-rec; def-is = h-def; let-is = h-let; in-is = h-in; if-is = h-if; then-is = h-then; else-is = h-else; num-is = h-num; bool-is = h-bool; open-is = h-open; close-is = h-close; comma-is = h-comma; gets-is = h-gets; dot-is = h-dot; name-is = nam; type-is = plain-type false nam; number-is = p; digits-is = λ e. q; op-is = no-op }
     where
       nam : is-name w ≡ false
       nam = plain-name (letter (first w)) true refl p ∙ none-left (letter (first w))
+
   name-facts : is-number w ≡ false → letter (first w) ≡ true → Facts w Name
   name-facts p q = record { use-is = h-use; kind-is = h-kind; rec-is = h-rec; def-is = h-def; let-is = h-let; in-is = h-in; if-is = h-if; then-is = h-then; else-is = h-else; num-is = h-num; bool-is = h-bool; open-is = h-open; close-is = h-close; comma-is = h-comma; gets-is = h-gets; dot-is = h-dot; name-is = plain-name true false q p; type-is = plain-type true (plain-name true false q p); number-is = p; digits-is = λ e. absurd (false≢true e); op-is = no-op }
+
   other-facts : is-number w ≡ false → letter (first w) ≡ false → Facts w Other
   other-facts p q = record { use-is = h-use; kind-is = h-kind; rec-is = h-rec; def-is = h-def; let-is = h-let; in-is = h-in; if-is = h-if; then-is = h-then; else-is = h-else; num-is = h-num; bool-is = h-bool; open-is = h-open; close-is = h-close; comma-is = h-comma; gets-is = h-gets; dot-is = h-dot; name-is = plain-name false false q p; type-is = plain-type false (plain-name false false q p); number-is = p; digits-is = λ e. absurd (false≢true e); op-is = no-op }
 
 by-pick : (P : Token → Type 0) (b : Bool) (x y : Token) → (b ≡ true → P x) → (b ≡ false → P y) → P (pick b x y)
 by-pick P true x y p q = p refl
 by-pick P false x y p q = q refl
+
 pub facts : (w : Word) → Facts w (token-of w)
 facts [] = end-facts
 facts (c ∷ cs) =

@@ -19,6 +19,7 @@ operator Equal = 3
 operator Less = 4
 operator And = 5
 operator Or = 6
+
 -- the level at which it stands
 abbrev pub level-of : Operator → ℕ
 level-of Plus = 4

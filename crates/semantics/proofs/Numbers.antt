@@ -28,21 +28,26 @@ use Rattle.semantics.proofs.Stands.{within-line}
 module _ (me : Word) (here : Look) (there1 : Word → Word → Sig) (file-there : Word → Bool) (before : List Word) (it : Item) where
   abbrev F : Fault → Type 0
   F f = (1 ≤ f .sort) × (f .sort ≤ 9) × (f .sort ≡ 1 → it ≡ i-bad (f .from) (f .to))
+
   abbrev T : Typed → Type 0
   T t = Unit {0}
+
   abbrev L : Link → Type 0
   L k = Unit {0}
+
   numbers : Says F T L (of-item me here there1 file-there before it)
-  numbers = item-says F T L here there1 me file-there before it (record
-      { tokens = each-of (Faulty F T L) (item-tokens it) (λ t a k o. token k o t)
-      ; bad = λ a b e. (omega arith, omega arith, λ q. e)
-      ; uses = λ t e y n. tt
-      ; types = each-of (Type-linked F T L here there1) (type-words it) (λ t a y n k o l. tt)
-      ; nodes = each-of (Node F T L here there1) (item-parts here there1 it) (λ p a. record
-          { blamed = λ u q. (omega arith, omega arith, λ s. absurd (omega arith)); token = λ t e k o. token k o t; noted = λ u q. tt; linked = λ t e k o l. tt }) })
+  numbers = item-says F T L here there1 me file-there before it (record {
+    tokens = each-of (Faulty F T L) (item-tokens it) (λ t a k o. token k o t);
+    bad = λ a b e. (omega arith, omega arith, λ q. e);
+    uses = λ t e y n. tt;
+    types = each-of (Type-linked F T L here there1) (type-words it) (λ t a y n k o l. tt);
+    nodes = each-of (Node F T L here there1) (item-parts here there1 it) (λ p a. record
+        { blamed = λ u q. (omega arith, omega arith, λ s. absurd (omega arith)); token = λ t e k o. token k o t; noted = λ u q. tt; linked = λ t e k o l. tt });
+  })
     where
       token : (k : ℕ) → (k ≡ 5 → ⊥) × (2 ≤ k) × (k ≤ 9) → (t : Tok) → (1 ≤ k) × (k ≤ 9) × (k ≡ 1 → it ≡ i-bad (t .from) (t .to))
       token k o t = let a : 2 ≤ k = o .1 in let b : k ≤ 9 = o .2 in (omega arith, b, λ s. absurd (omega arith))
+
 pub fault-numbers : Fault-numbers
 fault-numbers me here there1 file-there before it = numbers me here there1 file-there before it .faults
 
@@ -72,24 +77,30 @@ cut-in s acc (c ∷ cs) n h = go (eqb c 10) (cut-in (1 + (s + length acc)) [] cs
     go : (b : Bool) → Each (λ l. l .start + length (l .bytes) ≤ n) (cut (1 + (s + length acc)) [] cs) → Each (λ l. l .start + length (l .bytes) ≤ n) (cut s (acc ++ (c ∷ [])) cs) → Each (λ l. l .start + length (l .bytes) ≤ n) (pick b (record { start = s; bytes = acc } ∷ cut (1 + (s + length acc)) [] cs) (cut s (acc ++ (c ∷ [])) cs))
     go true p q = (omega arith, p)
     go false p q = q
+
 threes-cat : (n : ℕ) (xs ys : List ℕ) → Threes n xs → Threes n ys → Threes n (xs ++ ys)
 threes-cat n [] ys p q = q
 threes-cat n (a ∷ []) ys p q = absurd p
 threes-cat n (a ∷ b ∷ []) ys p q = absurd p
 threes-cat n (a ∷ b ∷ k ∷ xs) ys p q = (p .0, threes-cat n xs ys (p .1) q)
+
 abbrev In-line : ℕ → Fault → Type 0
 In-line m f = Stands-in m (f .from) (f .to)
+
 abbrev Numbered : Item → Fault → Type 0
 Numbered it f = (1 ≤ f .sort) × (f .sort ≤ 9) × (f .sort ≡ 1 → it ≡ i-bad (f .from) (f .to))
+
 words-in : (n s m : ℕ) (it : Item) (fs : List Fault) → s + m ≤ n → Each (In-line m) fs → Each (Numbered it) fs → Threes n (fault-words s fs)
 words-in n s m it [] h p q = tt
 words-in n s m it (f ∷ fs) h p q = let a : f .from ≤ f .to = p .0 .0 in let b : f .to ≤ m = p .0 .1 in ((omega arith, omega arith, q .0 .0, q .0 .1), words-in n s m it fs h (p .1) (q .1))
+
 module _ (p : Texts) (f : Word) (n : ℕ) where
   spoken-in : (ls : List Line) (before : List Word) → Each (λ l. l .start + length (l .bytes) ≤ n) ls → Threes n (faults-of (spoken p f before ls))
   spoken-in [] before h = tt
   spoken-in (l ∷ ls) before h = threes-cat n (fault-words (l .start) (faults-in (says-line p f before l))) _
       (words-in n (l .start) (length (l .bytes)) (item l) (faults-in (says-line p f before l)) (h .0) (within-line f (sig p f) (there p) (there-file p) before l .0) (fault-numbers f (sig p f) (there p) (there-file p) before (item l)))
       (spoken-in ls (before ++ declared l) (h .1))
+
 pub faults-in-text : Faults-in-text
 faults-in-text p f x ns e h =
     let a : faults p f ≡ some (faults-of (all-spoken p x)) = ap (λ o. on-some o (λ y. some (faults-of (all-spoken p y)))) e in

@@ -13,6 +13,7 @@ use Rattle.grammar.specs.Code.{count, Op, o-num, o-name, o-call, o-arg, o-end, 
 abbrev pub none-left : Es → ℕ
 none-left no = 1
 none-left (and-then e es) = 0
+
 abbrev mutual
   pub pieces-of : E → ℕ
   pieces-of (e-num t) = 1
@@ -23,10 +24,12 @@ abbrev mutual
   pieces-of (e-if n a b c) = 3 + (pieces-of a + (pieces-of b + pieces-of c))
   pieces-of (e-let n x a b) = 4 + (pieces-of a + pieces-of b)
   pieces-of (e-par n e m) = 2 + pieces-of e
+
   -- each argument with the comma or the bracket behind it
   pub args-of : Es → ℕ
   args-of no = 0
   args-of (and-then e es) = pieces-of e + (1 + args-of es)
+
 mutual
   pub few : (e : E) (os : List Op) → length (onto e os) ≤ pieces-of e + length os
   few (e-num t) os = omega arith
@@ -37,6 +40,7 @@ mutual
   few (e-if n a b c) os = omega (arith, few a (o-cond ∷ onto b (onto c (o-if n ∷ os))), few b (onto c (o-if n ∷ os)), few c (o-if n ∷ os))
   few (e-let n x a b) os = omega (arith, few a (o-bind x ∷ onto b (o-let n ∷ os)), few b (o-let n ∷ os))
   few (e-par n e m) os = omega (arith, few e (o-par n m ∷ os))
+
   pub fews : (es : Es) (os : List Op) → length (ontos es os) ≤ args-of es + length os
   fews no os = omega arith
   fews (and-then e es) os = omega (arith, few e (o-arg ∷ ontos es os), fews es os)

@@ -20,6 +20,6 @@ abbrev pub Line-said : Type 0
 Line-said = (me : Word) (here : Word → Sig) (there : Word → Word → Sig) (file-there : Word → Bool) (before : List Word) (it : Item) →
     (run (answer me here there file-there before) (item-code it) start .out ≡ add silent (of-item me here there file-there before it))
     × ((l : Query → Fetch Query) → Agrees l (answer me here there file-there before) →
-        tries l (item-code it) start ≡ opt (first-lacking l (asked (answer me here there file-there before) (item-code it) start)) (ends (run (answer me here there file-there before) (item-code it) start)) need)
+    tries l (item-code it) start ≡ opt (first-lacking l (asked (answer me here there file-there before) (item-code it) start)) (ends (run (answer me here there file-there before) (item-code it) start)) need)
     × (length (asked (answer me here there file-there before) (item-code it) start) ≤ length (item-code it))
     × ((ln : Line) → length (asked (answer me here there file-there before) (item-code (item ln)) start) ≤ length (ln .bytes))

@@ -22,54 +22,69 @@ pub record Frame : Type 0 where
   pub from : ℕ
   pub to : ℕ
   pub slots : List Slot
+
 -- what was said so far: faults, the types of parts, what names mean
 pub record Output : Type 0 where
   pub faults : List Fault
   pub types : List Typed
   pub links : List Link
+
 -- where a walk stands: the frames, the newest first; the names bound, the innermost first; what was said
 pub record State : Type 0 where
   pub stack : List Frame
   pub bound : List Local
   pub out : Output
+
 -- a state from its three parts
 abbrev pub state : List Frame → List Local → Output → State
 state st g o = record { stack = st; bound = g; out = o }
+
 -- a frame that is a value
 abbrev pub value : Option Ty → ℕ → ℕ → Frame
 value o a b = record { ty = o; from = a; to = b; slots = [] }
+
 -- the newest frame, and the others
 abbrev pub top : List Frame → Frame
 top [] = value none 0 0
 top (v ∷ vs) = v
+
 abbrev pub pop : {A : Type 0} → List A → List A
 pop [] = []
 pop (v ∷ vs) = vs
+
 -- what is said of something goes behind what was said
 abbrev pub add : Output → Said → Output
 add o s = record { faults = o .faults ++ faults-in s; types = o .types ++ types-in s; links = o .links ++ links-in s }
+
 -- s is said of what stands from a to b: its type onto the stack, the rest behind what was said
 abbrev pub pushed : ℕ → ℕ → Said → State → State
 pushed a b s σ = state (value (ty-in s) a b ∷ σ .stack) (σ .bound) (add (σ .out) s)
+
 -- the same from a state's parts
 abbrev pub says : ℕ → ℕ → Said → List Frame → List Local → Output → State
 says a b s st g o = state (value (ty-in s) a b ∷ st) g (add o s)
+
 -- faults alone
 abbrev pub tells : List Fault → Said
 tells fs = said none fs [] []
+
 -- the type that the next argument is held against
 abbrev pub first-slot : List Slot → Option Ty
 first-slot [] = none
 first-slot (s ∷ ss) = s .ty
+
 -- an operator's faults, its operands being these two frames
 abbrev pub op-faults-at : ℕ → Frame → Frame → List Fault
 op-faults-at o a b = pick (eqb o 3) (opt (a .ty) [] (λ u. wants u (b .from) (b .to) (b .ty))) (pick (leb 5 o) (both t-bool (a .from) (a .to) (b .from) (b .to) (a .ty) (b .ty)) (both t-num (a .from) (a .to) (b .from) (b .to) (a .ty) (b .ty)))
+
 -- what is called: a name bound in the line can't be
 abbrev pub called : List Local → Tok → Sig → Callee
 called g f s = opt (find g (f .w)) (callee f s) (λ x. calls-it none (said none (fault (f .from) (f .to) 8 ∷ []) [] (link-local f x ∷ [])))
+
 -- a call of n arguments begins: a frame with the slots to come; fault 6 stands before what is wrong with the name
 abbrev pub begins : Tok → ℕ → Callee → List Frame → List Local → Output → State
 begins f n (calls-it o c) st g out = state (record { ty = ty-in c; from = f .from; to = f .to; slots = opt o [] (λ ss. ss) } ∷ st) g (add out (in-front (count-fault f n o) c))
+
 -- a name by itself: one bound in the line, else what s says that it means
 abbrev pub named : List Local → Tok → Sig → Said
 named g t s = opt (find g (t .w)) (name-alone t s) (λ x. said (x .ty) [] [] (link-local t x ∷ []))
@@ -81,28 +96,35 @@ pub data Query : Type 0 where
   q-there : Word → Word → Query
   q-file : Word → Query
   q-before : Word → Query
+
 -- what a query is answered by: what a name is, or yes or no
 pub data Known : Type 0 where
   k-sig : Sig → Known
   k-yes : Bool → Known
+
 abbrev pub the-sig : Known → Sig
 the-sig (k-sig s) = s
 the-sig (k-yes b) = s-unknown
+
 abbrev pub is-so : Known → Bool
 is-so (k-sig s) = false
 is-so (k-yes b) = b
+
 -- a name asks what it means here, unless it is bound in the line
 abbrev pub asks-name : List Local → Word → Option Query
 asks-name g w = opt (find g w) (some (q-here w)) (λ x. none)
+
 -- a field asks what its record is, if there is one to ask for
 abbrev pub asks-type : Option Ty → Option Query
 asks-type none = none
 asks-type (some t-num) = none
 asks-type (some t-bool) = none
 asks-type (some (t-of f n)) = some (q-there f n)
+
 -- a word where a type has to be asks what it means here, unless it is num or bool
 abbrev pub asks-word : Word → Option Query
 asks-word w = pick (same w k-num) none (pick (same w k-bool) none (some (q-here w)))
+
 -- at most one thing for each operation
 abbrev pub asks : Op → State → Option Query
 asks (o-num t) σ = none
@@ -124,12 +146,15 @@ asks (o-slot x) σ = asks-word (x .ty .w)
 asks (o-result r) σ = asks-word (r .w)
 asks o-body σ = none
 asks (o-bad a b) σ = none
+
 -- fault 4 at a name that was there before, or that is bound in the line already
 abbrev pub twice : Bool → Tok → List Local → Said
 twice b t g = pick (b || is-some (find g (t .w))) (wrong t 4) quiet
+
 -- a name bound in the line, with its type
 abbrev pub local-of : Tok → Option Ty → Local
 local-of t o = record { name = t; ty = o }
+
 -- one operation, told what it asked; z means nothing where it asked nothing
 abbrev pub step : Known → Op → State → State
 step z (o-num t) σ = says (t .from) (t .to) (typed (t .from) (t .to) (said (some t-num) [] [] [])) (σ .stack) (σ .bound) (σ .out)
@@ -156,64 +181,81 @@ step z (o-bad a b) σ = state (σ .stack) (σ .bound) (add (σ .out) (said none 
 -- what an operation is told: where it asks nothing, something that it doesn't look at
 abbrev pub told : (Query → Known) → Option Query → Known
 told f q = opt q (k-yes false) f
+
 abbrev pub run : (Query → Known) → List Op → State → State
 run f [] σ = σ
 run f (o ∷ os) σ = run f os (step (told f (asks o σ)) o σ)
+
 -- all that it asks, in order
 abbrev pub asked : (Query → Known) → List Op → State → List Query
 asked f [] σ = []
 asked f (o ∷ os) σ = opt (asks o σ) [] (λ q. q ∷ []) ++ asked f os (step (told f (asks o σ)) o σ)
+
 -- the walk that stops at the first thing that isn't known, with what is to be asked then: a key of some sort
 pub data Fetch (K : Type 0) : Type 0 where
   lacks : K → Fetch K
   has : Known → Fetch K
+
 pub data Outcome (K : Type 0) : Type 0 where
   need : K → Outcome K
   ends : State → Outcome K
+
 -- what the operation is told, or what is lacking for it
 abbrev pub fetch : {K : Type 0} → (Query → Fetch K) → Option Query → Fetch K
 fetch l none = has (k-yes false)
 fetch l (some q) = l q
+
 abbrev pub go-on : {K : Type 0} → Fetch K → (Known → Outcome K) → Outcome K
 go-on (lacks q) f = need q
 go-on (has s) f = f s
+
 -- the walk where not all is known
 abbrev pub tries : {K : Type 0} → (Query → Fetch K) → List Op → State → Outcome K
 tries l [] σ = ends σ
 tries l (o ∷ os) σ = go-on (fetch l (asks o σ)) (λ s. tries l os (step s o σ))
+
 -- what there is to know, from the definition's functions
 abbrev pub answer : Word → (Word → Sig) → (Word → Word → Sig) → (Word → Bool) → List Word → Query → Known
 answer me here there file-there before (q-here w) = k-sig (here w)
 answer me here there file-there before (q-there f n) = k-sig (there f n)
 answer me here there file-there before (q-file w) = k-yes (file-there w && not (same w me))
 answer me here there file-there before (q-before w) = k-yes (among w before)
+
 -- nothing said; and the state in which a line's walk begins
 abbrev pub silent : Output
 silent = record { faults = []; types = []; links = [] }
+
 abbrev pub start : State
 start = state [] [] silent
+
 -- the key that the first of these lacks
 abbrev pub or-lacks : {K : Type 0} → Fetch K → Option K → Option K
 or-lacks (lacks k) r = some k
 or-lacks (has s) r = r
+
 abbrev pub first-lacking : {K : Type 0} → (Query → Fetch K) → List Query → Option K
 first-lacking l [] = none
 first-lacking l (q ∷ qs) = or-lacks (l q) (first-lacking l qs)
+
 -- what is known is so
 abbrev pub Agrees : {K : Type 0} → (Query → Fetch K) → (Query → Known) → Type 0
 Agrees l f = (q : Query) (s : Known) → l q ≡ has s → s ≡ f q
+
 -- the walk told the answers in the order in which it asks
 abbrev pub next-told : List Known → Option Query → (Known → List Known → Outcome Query) → Outcome Query
 next-told as₁ none h = h (k-yes false) as₁
 next-told [] (some q) h = need q
 next-told (a ∷ as₁) (some q) h = h a as₁
+
 abbrev pub walk : List Op → List Known → State → Outcome Query
 walk [] as₁ σ = ends σ
 walk (o ∷ os) as₁ σ = next-told as₁ (asks o σ) (λ z bs. walk os bs (step z o σ))
+
 -- the answers to queries, in order; and what stands at a place of a list
 abbrev pub all-told : (Query → Known) → List Query → List Known
 all-told f [] = []
 all-told f (q ∷ qs) = f q ∷ all-told f qs
+
 abbrev pub at-place : {A : Type 0} → ℕ → List A → Option A
 at-place n [] = none
 at-place zero (x ∷ xs) = some x

@@ -42,6 +42,7 @@ fits-name BadNumber = refl
 fits-name Name = refl
 fits-name Other = refl
 fits-name End = refl
+
 fits-type : (t : Token) → is-typed t ≡ fits AType t
 fits-type Use = refl
 fits-type Kind = refl
@@ -65,6 +66,7 @@ fits-type BadNumber = refl
 fits-type Name = refl
 fits-type Other = refl
 fits-type End = refl
+
 fits-gets : (t : Token) → is-gets t ≡ fits AGets t
 fits-gets Use = refl
 fits-gets Kind = refl
@@ -88,6 +90,7 @@ fits-gets BadNumber = refl
 fits-gets Name = refl
 fits-gets Other = refl
 fits-gets End = refl
+
 fits-open : (t : Token) → is-open t ≡ fits AOpen t
 fits-open Use = refl
 fits-open Kind = refl
@@ -111,6 +114,7 @@ fits-open BadNumber = refl
 fits-open Name = refl
 fits-open Other = refl
 fits-open End = refl
+
 fits-close : (t : Token) → is-close t ≡ fits AClose t
 fits-close Use = refl
 fits-close Kind = refl
@@ -134,6 +138,7 @@ fits-close BadNumber = refl
 fits-close Name = refl
 fits-close Other = refl
 fits-close End = refl
+
 fits-comma : (t : Token) → is-comma t ≡ fits AComma t
 fits-comma Use = refl
 fits-comma Kind = refl
@@ -157,6 +162,7 @@ fits-comma BadNumber = refl
 fits-comma Name = refl
 fits-comma Other = refl
 fits-comma End = refl
+
 pub wants-fits : (k : Wanted) (w : Word) → wants k w ≡ fits k (token-of w)
 wants-fits AName w = facts w .name-is ∙ fits-name (token-of w)
 wants-fits AType w = facts w .type-is ∙ fits-type (token-of w)
@@ -164,6 +170,7 @@ wants-fits AGets w = facts w .gets-is ∙ fits-gets (token-of w)
 wants-fits AOpen w = facts w .open-is ∙ fits-open (token-of w)
 wants-fits AClose w = facts w .close-is ∙ fits-close (token-of w)
 wants-fits AComma w = facts w .comma-is ∙ fits-comma (token-of w)
+
 no-end : (k : Wanted) → fits k End ≡ false
 no-end AName = refl
 no-end AType = refl
@@ -171,6 +178,7 @@ no-end AGets = refl
 no-end AOpen = refl
 no-end AClose = refl
 no-end AComma = refl
+
 ends-end : (t : Token) → is-end t ≡ true → t ≡ End
 ends-end Use e = absurd (false≢true e)
 ends-end Kind e = absurd (false≢true e)
@@ -194,21 +202,25 @@ ends-end BadNumber e = absurd (false≢true e)
 ends-end Name e = absurd (false≢true e)
 ends-end Other e = absurd (false≢true e)
 ends-end End e = refl
+
 -- what is seen is what is wanted
 module _ (k : Wanted) (line : List ℕ) (at : ℕ) (s : Seen) (h : SeenSays line at s) where
   pub seen-fits : wants k (next (left line at)) ≡ fits k (s .token)
   seen-fits = wants-fits k (next (left line at)) ∙ ap (fits k) (sym (h .token))
+
   pub is-next : fits k (s .token) ≡ true → NextAt line at (s .from) (s .to)
   is-next e = go (is-end (s .token)) refl (h .place)
     where
       go : (b : Bool) → is-end (s .token) ≡ b → StandsIf b line at (s .from) (s .to) → NextAt line at (s .from) (s .to)
       go true p q = absurd (false≢true (sym (no-end k) ∙ ap (fits k) (sym (ends-end (s .token) p)) ∙ e))
       go false p q = q
+
   pub taken : fits k (s .token) ≡ true → word k (left line at) ≡ it (piece line (s .from) (s .to)) (left line (s .to))
   taken e =
       let n = is-next e in
       let p : wants k (piece line (s .from) (s .to) .w) ≡ true = ap (λ ts. wants k (next ts)) (sym (n .reads)) ∙ seen-fits ∙ e in
       ap (a-word (wants k)) (n .reads) ∙ ap (λ b. pick b (it (piece line (s .from) (s .to)) (left line (s .to))) (bad (piece line (s .from) (s .to) ∷ left line (s .to)))) p
+
   pub refused : fits k (s .token) ≡ false → word k (left line at) ≡ bad (left line at)
   refused e = go (left line at) (seen-fits ∙ e)
     where

@@ -15,6 +15,7 @@ wants AGets w = same w t-gets
 wants AOpen w = same w t-lp
 wants AClose w = same w t-rp
 wants AComma w = same w t-comma
+
 -- and whether a token is
 abbrev pub fits : Wanted → Token → Bool
 fits AName Use = false

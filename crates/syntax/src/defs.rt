@@ -18,7 +18,13 @@ use parser::parse::Read;
 use parser::parse::parse;
 
 // An expression from a place on.
-fn read_body(words: &mut [u32], len: usize, base: usize, n: usize, from: usize) -> Result<Place, Wrong>
+fn read_body(
+    words: &mut [u32],
+    len: usize,
+    base: usize,
+    n: usize,
+    from: usize,
+) -> Result<Place, Wrong>
     requires small { ⌜ len < 4294967000 ⌝ }
     requires line { ⌜ len ≤ base ⌝ }
     requires room { ⌜ base + 14 * len + 64 ≤ length (now words) ⌝ }
@@ -27,7 +33,10 @@ fn read_body(words: &mut [u32], len: usize, base: usize, n: usize, from: usize) 
     ensures reads { λ r. ⌜ BodySays (take len (now (words .entry))) base n (now (words .entry)) (now (words .exit)) («body-ops» (left (take len (now (words .entry))) from)) r ⌝ }
 {
     match parse(words, len, from, base + 5 * n) {
-        Read::It { at, count } => Ok(Place { at, count: n + count }),
+        Read::It { at, count } => Ok(Place {
+            at,
+            count: n + count,
+        }),
         Read::Bad(at) => Err(Wrong { at }),
     }
 }

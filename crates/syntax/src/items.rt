@@ -27,11 +27,20 @@ pub fn read_use(words: &mut [u32], len: usize, base: usize, from: usize) -> Resu
     let name = expect(words, len, from, Wanted::Name)?;
     expect_end(words, len, name.to as usize)?;
     emit(words, base, 0, Op::Use(name));
-    Ok(Place { at: name.to as usize, count: 1 })
+    Ok(Place {
+        at: name.to as usize,
+        count: 1,
+    })
 }
 
 // A kind or a record, behind its word.
-pub fn read_block(words: &mut [u32], len: usize, base: usize, from: usize, listed: Listed) -> Result<Place, Wrong>
+pub fn read_block(
+    words: &mut [u32],
+    len: usize,
+    base: usize,
+    from: usize,
+    listed: Listed,
+) -> Result<Place, Wrong>
     requires small { ⌜ len < 4294967296 ⌝ }
     requires line { ⌜ len ≤ base ⌝ }
     requires room { ⌜ base + 5 * len ≤ length (now words) ⌝ }

@@ -38,16 +38,29 @@ fn read_entry(words: &[u32], len: usize, at: usize, listed: Listed) -> Result<En
 {
     let name = expect(words, len, at, Wanted::Name)?;
     match listed {
-        Listed::Names => Ok(Entry { op: Op::Const(name), to: name.to as usize }),
+        Listed::Names => Ok(Entry {
+            op: Op::Const(name),
+            to: name.to as usize,
+        }),
         Listed::Fields => {
             let ty = expect(words, len, name.to as usize, Wanted::TypeWord)?;
-            Ok(Entry { op: Op::Slot(name, ty), to: ty.to as usize })
+            Ok(Entry {
+                op: Op::Slot(name, ty),
+                to: ty.to as usize,
+            })
         }
     }
 }
 
 // A list from a place on, as operations behind the n that stand from base on.
-pub fn read_list(words: &mut [u32], len: usize, base: usize, n: usize, from: usize, listed: Listed) -> Result<Place, Wrong>
+pub fn read_list(
+    words: &mut [u32],
+    len: usize,
+    base: usize,
+    n: usize,
+    from: usize,
+    listed: Listed,
+) -> Result<Place, Wrong>
     requires small { ⌜ len < 4294967296 ⌝ }
     requires line { ⌜ len ≤ base ⌝ }
     requires room { ⌜ base + 5 * len ≤ length (now words) ⌝ }
@@ -63,7 +76,10 @@ pub fn read_list(words: &mut [u32], len: usize, base: usize, n: usize, from: usi
         count += 1;
         let next = seen(words, len, entry.to);
         if !Wanted::Comma.is(next.token) {
-            return Ok(Place { at: entry.to, count });
+            return Ok(Place {
+                at: entry.to,
+                count,
+            });
         }
         at = next.to;
     }

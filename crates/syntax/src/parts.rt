@@ -24,7 +24,11 @@ pub fn expect_end(words: &[u32], len: usize, at: usize) -> Result<(), Wrong>
     ensures { λ r. ⌜ EndSays (take len (now (words .entry))) «at» r ⌝ }
 {
     let next = seen(words, len, at);
-    if matches!(next.token, Token::End) { Ok(()) } else { Err(Wrong { at }) }
+    if matches!(next.token, Token::End) {
+        Ok(())
+    } else {
+        Err(Wrong { at })
+    }
 }
 
 // How the name of a kind, or of a record or def, is said.
@@ -38,7 +42,14 @@ fn head_op(listed: Listed, name: Span) -> Op
 }
 
 // The name that a line declares, and the sign behind it.
-pub fn read_start(words: &mut [u32], len: usize, base: usize, from: usize, listed: Listed, sign: Wanted) -> Result<Place, Wrong>
+pub fn read_start(
+    words: &mut [u32],
+    len: usize,
+    base: usize,
+    from: usize,
+    listed: Listed,
+    sign: Wanted,
+) -> Result<Place, Wrong>
     requires small { ⌜ len < 4294967296 ⌝ }
     requires line { ⌜ len ≤ base ⌝ }
     requires room { ⌜ base + 5 * len ≤ length (now words) ⌝ }
@@ -49,11 +60,20 @@ pub fn read_start(words: &mut [u32], len: usize, base: usize, from: usize, liste
     let name = expect(words, len, from, Wanted::Name)?;
     let behind = expect(words, len, name.to as usize, sign)?;
     emit(words, base, 0, head_op(listed, name));
-    Ok(Place { at: behind.to as usize, count: 1 })
+    Ok(Place {
+        at: behind.to as usize,
+        count: 1,
+    })
 }
 
 // A def's parameters, or none.
-pub fn read_params(words: &mut [u32], len: usize, base: usize, n: usize, from: usize) -> Result<Place, Wrong>
+pub fn read_params(
+    words: &mut [u32],
+    len: usize,
+    base: usize,
+    n: usize,
+    from: usize,
+) -> Result<Place, Wrong>
     requires small { ⌜ len < 4294967296 ⌝ }
     requires line { ⌜ len ≤ base ⌝ }
     requires room { ⌜ base + 5 * len ≤ length (now words) ⌝ }
@@ -69,7 +89,13 @@ pub fn read_params(words: &mut [u32], len: usize, base: usize, n: usize, from: u
 }
 
 // The end of the parameters, and a def's result.
-pub fn read_result(words: &mut [u32], len: usize, base: usize, n: usize, from: usize) -> Result<Place, Wrong>
+pub fn read_result(
+    words: &mut [u32],
+    len: usize,
+    base: usize,
+    n: usize,
+    from: usize,
+) -> Result<Place, Wrong>
     requires small { ⌜ len < 4294967296 ⌝ }
     requires line { ⌜ len ≤ base ⌝ }
     requires room { ⌜ base + 5 * len ≤ length (now words) ⌝ }
@@ -81,5 +107,8 @@ pub fn read_result(words: &mut [u32], len: usize, base: usize, n: usize, from: u
     let ty = expect(words, len, close.to as usize, Wanted::TypeWord)?;
     let gets = expect(words, len, ty.to as usize, Wanted::Gets)?;
     emit(words, base, n, Op::Result(ty));
-    Ok(Place { at: gets.to as usize, count: n + 1 })
+    Ok(Place {
+        at: gets.to as usize,
+        count: n + 1,
+    })
 }

@@ -27,6 +27,11 @@ pub enum Refusal {
 // The longest line that is read.
 const LONGEST: usize = 4294966999;
 
+// How many words are wanted for each byte of a line, and how many more.
+const WORDS_A_BYTE: usize = 14;
+
+const WORDS_MORE: usize = 64;
+
 // How many words are wanted behind base for a line of so many bytes.
 pub fn room(len: usize) -> usize
     ensures { λ r. ⌜ (len < 4294967000 → r ≡ «room-for» len) ⌝ }
@@ -34,7 +39,7 @@ pub fn room(len: usize) -> usize
     if len > LONGEST {
         return usize::MAX;
     }
-    14 * len + 64
+    WORDS_A_BYTE * len + WORDS_MORE
 }
 
 // Where a line goes wrong: the place of the piece that is next from a place on, or the last piece's end.
@@ -47,7 +52,10 @@ fn place_of(words: &[u32], len: usize, wrong: Wrong) -> Span
         let end = last_end(&words[0..len]) as u32;
         return Span { from: end, to: end };
     }
-    Span { from: next.from as u32, to: next.to as u32 }
+    Span {
+        from: next.from as u32,
+        to: next.to as u32,
+    }
 }
 
 // The item, by the word with which the line begins.

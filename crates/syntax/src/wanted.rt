@@ -58,7 +58,10 @@ pub fn expect(words: &[u32], len: usize, at: usize, wanted: Wanted) -> Result<Sp
 {
     let next = seen(words, len, at);
     if wanted.is(next.token) {
-        return Ok(Span { from: next.from as u32, to: next.to as u32 });
+        return Ok(Span {
+            from: next.from as u32,
+            to: next.to as u32,
+        });
     }
     Err(Wrong { at })
 }

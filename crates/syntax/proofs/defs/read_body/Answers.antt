@@ -24,10 +24,16 @@ returns-in-It c =
     let m = c .in-It .count in
     let b = c .args .base in
     let t = take-full (c .args .len) ws (omega (arith, c .pre .line, c .pre .room)) in
-    record { front = front-line b (b + 5 * n) ws vs (omega arith) k; reads = (code (r .reads .0),
-      ap (λ g. with1 g (λ e us. it (code e) us)) (r .reads .2 (10 * length us + 10) (omega arith)),
-      ops-join line b n m vs (omega (arith, r .fits)) ∙ (λ i. same-ops line b n ws vs k i ++ r .reads .1 i),
-      omega (arith, r .few, left-short line (c .args .from), t, c .pre .behind .0, c .pre .behind .1), omega (arith, t, r .within)) }
+    record {
+      front = front-line b (b + 5 * n) ws vs (omega arith) k;
+      reads = (
+        code (r .reads .0),
+        ap (λ g. with1 g (λ e us. it (code e) us)) (r .reads .2 (10 * length us + 10) (omega arith)),
+        ops-join line b n m vs (omega (arith, r .fits)) ∙ (λ i. same-ops line b n ws vs k i ++ r .reads .1 i),
+        omega (arith, r .few, left-short line (c .args .from), t, c .pre .behind .0, c .pre .behind .1),
+        omega (arith, t, r .within),
+      );
+    }
 
 pub returns-in-Bad : need.returns-in-Bad
 returns-in-Bad c =

@@ -142,6 +142,12 @@ returns c =
     let p4 = def-4 len base from ws w3 (s3 .at) (s3 .count) l3 p3 w4 s4 (g4 .reads) in
     let line = take len ws in
     let x = subst (λ l. ends (o-body ∷ []) (left l (s4 .at)) ≡ it (o-body ∷ []) (left l (s4 .at))) l4 (c .in-Continue-expect-end .ensures tt (o-body ∷ [])) in
-    record { front = c .emit .ensures .below base (omega arith) ∙ f4; reads = (p4 .done ++ (o-body ∷ []), left line (s4 .at),
-      ends-well line base 0 ws (def-ops (left line from)) w4 (ends (o-body ∷ [])) (s4 .at) (s4 .count) p4 (o-body ∷ []) x,
-      c .emit .ensures .adds line ∙ ap (λ l. l ++ (o-body ∷ [])) (p4 .stands ∙ ap (λ l. l ++ p4 .done) (ops-none line base ws (omega (arith, c .pre .room))))) }
+    record {
+      front = c .emit .ensures .below base (omega arith) ∙ f4;
+      reads = (
+        p4 .done ++ (o-body ∷ []),
+        left line (s4 .at),
+        ends-well line base 0 ws (def-ops (left line from)) w4 (ends (o-body ∷ [])) (s4 .at) (s4 .count) p4 (o-body ∷ []) x,
+        c .emit .ensures .adds line ∙ ap (λ l. l ++ (o-body ∷ [])) (p4 .stands ∙ ap (λ l. l ++ p4 .done) (ops-none line base ws (omega (arith, c .pre .room)))),
+      );
+    }

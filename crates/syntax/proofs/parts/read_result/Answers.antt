@@ -15,8 +15,15 @@ returns c =
     let p = c .in-Continue-close .ensures tt in
     let q = c .in-Continue-ty .ensures tt in
     let r = c .in-Continue-gets .ensures tt in
-    record { front = c .emit .ensures .below (c .args .base) (omega arith); reads = (o-result (span-of line (c .in-Continue-ty .ty)) ∷ [],
-      ap (λ g. with1 g (λ a us. with1 (word TypeWord us) (λ t vs. with1 (word Gets vs) (λ g xs. it (o-result t ∷ []) xs)))) (p .0) ∙
-      ap (λ g. with1 g (λ t vs. with1 (word Gets vs) (λ g xs. it (o-result t ∷ []) xs))) (q .0) ∙
-      ap (λ g. with1 g (λ g xs. it (o-result (span-of line (c .in-Continue-ty .ty)) ∷ []) xs)) (r .0),
-      c .emit .ensures .adds line, omega (arith, c .pre .behind .0, p .1, q .1, r .1), r .2) }
+    record {
+      front = c .emit .ensures .below (c .args .base) (omega arith);
+      reads = (
+        o-result (span-of line (c .in-Continue-ty .ty)) ∷ [],
+        ap (λ g. with1 g (λ a us. with1 (word TypeWord us) (λ t vs. with1 (word Gets vs) (λ g xs. it (o-result t ∷ []) xs)))) (p .0) ∙
+            ap (λ g. with1 g (λ t vs. with1 (word Gets vs) (λ g xs. it (o-result t ∷ []) xs))) (q .0) ∙
+            ap (λ g. with1 g (λ g xs. it (o-result (span-of line (c .in-Continue-ty .ty)) ∷ []) xs)) (r .0),
+        c .emit .ensures .adds line,
+        omega (arith, c .pre .behind .0, p .1, q .1, r .1),
+        r .2,
+      );
+    }

@@ -10,5 +10,6 @@ returns-then-is c =
     let e = sym (c .is .ensures) ∙ c .if-is .taken in
     let n = is-next (c .args .wanted) line (c .args .at) (c .seen-next .result) (c .seen-next .ensures) e in
     (taken (c .args .wanted) line (c .args .at) (c .seen-next .result) (c .seen-next .ensures) e, omega (arith, n .onward, n .some-bytes), n .within)
+
 pub returns : need.returns
 returns c = refused (c .args .wanted) (take (c .args .len) (c .args .words .now)) (c .args .at) (c .seen-next .result) (c .seen-next .ensures) (sym (c .is .ensures) ∙ c .if-is .left)
