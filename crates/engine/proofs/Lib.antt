@@ -1,0 +1,6 @@
+pub mod Basics
+pub mod Worth
+pub mod Settled
+pub mod Steps
+pub mod Brings
+pub mod Promises

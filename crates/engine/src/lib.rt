@@ -1,0 +1,3 @@
+// An engine that keeps answers and works out no more than it must, for any rules.
+pub mod key;
+pub mod theorems;
