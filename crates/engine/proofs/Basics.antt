@@ -5,6 +5,7 @@ use mathlib.Core.List.{List, [], _∷_, _++_, append-nil, append-assoc}
 use mathlib.Core.Logic.{_⊎_, inl, inr}
 use mathlib.Core.Option.{Option, some, none}
 use Prim.Native.Nat.{ℕ, zero, suc, _+_}
+use lib.ListN.{length}
 use lib.Dec.{eqb}
 use borrow.Author.Needs.{needs}
 use Rattle.std.proofs.shelf.Tests.{and-parts, and-from, eqb-true, eq-eqb, both-ways, cases-bool}
@@ -69,6 +70,10 @@ pub answers-more : (gs : List Got) (g : Got) → answers (gs ++ (g ∷ [])) ≡ 
 answers-more [] g = refl
 answers-more (h ∷ gs) g = ap (λ as₁. h .ans ∷ as₁) (answers-more gs g)
 
+pub length-answers : (gs : List Got) → length (answers gs) ≡ length gs
+length-answers [] = refl
+length-answers (g ∷ gs) = ap suc (length-answers gs)
+
 -- what stands in two lists together
 pub among-cases : (j : Key) (xs ys : List Key) → Among j (xs ++ ys) → Among j xs ⊎ Among j ys
 among-cases j [] ys h = inr h
@@ -98,3 +103,10 @@ in-more P [] h q p g first = p
 in-more P [] h q p g (later y) = elim y [ ]
 in-more P (x ∷ gs) h q p g first = q g first
 in-more P (x ∷ gs) h q p g (later y) = in-more P gs h (λ z w. q z (later w)) p g y
+pub in-both : (P : Got → Type 0) (xs ys : List Got) → ((g : Got) → In-gots g xs → P g) → ((g : Got) → In-gots g ys → P g) → (g : Got) → In-gots g (xs ++ ys) → P g
+in-both P [] ys p q g h = q g h
+in-both P (x ∷ xs) ys p q g first = p g first
+in-both P (x ∷ xs) ys p q g (later h) = in-both P xs ys (λ z w. p z (later w)) q g h
+pub in-right : (g : Got) (xs ys : List Got) → In-gots g ys → In-gots g (xs ++ ys)
+in-right g [] ys h = h
+in-right g (x ∷ xs) ys h = later (in-right g xs ys h)
