@@ -12,11 +12,11 @@ use Rattle.std.proofs.shelf.Tests.{both-ways}
 use Rattle.engine.specs.declared.key.Key.{Key}
 use Rattle.base.specs.Base.{pick, same}
 use Rattle.engine.specs.Engine.{Ans, Then, ask, done, Rules, Inputs, Got, Entry, Kept, Brought, Bring, brought, bring, find, store, check, Checked, answers, went, finish, on-next, work, renew}
-use Rattle.engine.specs.Theorems.{Falls, Asked, ends, asks, Among, here, there, No-twice, blank, another, In-gots, first, later}
+use Rattle.engine.specs.Theorems.{Falls, Asked, ends, asks, Among, here, there, No-twice, blank, another, In-gots, first, later, value, Settled, given, stands, tally}
 use Rattle.engine.proofs.Basics.{pick-true, pick-false, same-true, same-yes, answers-more, in-cons, in-more}
-use Rattle.engine.proofs.Worth.{value, lower, fewer, asked-lower, value-asked}
-use Rattle.engine.proofs.Settled.{Fair, Right, Settled, given, stands, All-settled}
-use Rattle.engine.proofs.Steps.{Stale, stale-moves, Step, tally, tally-join, stored-told, step-none, step-wider, step-join, stored, stored-settled}
+use Rattle.engine.proofs.Worth.{lower, fewer, asked-lower, value-asked}
+use Rattle.engine.proofs.Settled.{Fair, Right, All-settled}
+use Rattle.engine.proofs.Steps.{Stale, stale-moves, Step, tally-join, stored-told, step-none, step-wider, step-join, stored, stored-settled}
 
 -- a step from m to l
 abbrev pub Goes : Rules → Inputs → ℕ → Kept → Kept → List Key → Type 0

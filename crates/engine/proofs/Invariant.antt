@@ -12,10 +12,10 @@ use Rattle.std.proofs.shelf.Tests.{both-ways}
 use Rattle.engine.specs.declared.key.Key.{Key}
 use Rattle.base.specs.Base.{pick, same}
 use Rattle.engine.specs.Engine.{Ans, Then, ask, done, Rules, Inputs, Got, Entry, Kept, find, store, answers, went}
-use Rattle.engine.specs.Theorems.{Falls, Asked, ends, asks, In-gots, first, later, Among, here, there, No-twice, blank, another}
+use Rattle.engine.specs.Theorems.{Falls, Asked, ends, asks, In-gots, first, later, Among, here, there, No-twice, blank, another, value, Settled, given, stands}
 use Rattle.engine.proofs.Basics.{pick-true, same-true, same-yes, answers-more, in-more, among-cases, among-one, no-twice-join, in-right, length-answers}
-use Rattle.engine.proofs.Worth.{Partial, value, lower, fewer, asked-lower, value-asked}
-use Rattle.engine.proofs.Settled.{Fair, Right, Settled, given, stands, All-settled}
+use Rattle.engine.proofs.Worth.{Partial, lower, fewer, asked-lower, value-asked}
+use Rattle.engine.proofs.Settled.{Fair, Right, All-settled}
 use Rattle.engine.proofs.Steps.{Stale, stale-not, Step, stored, stored-settled}
 use Rattle.engine.specs.Machine.{Frame, looks, works, State, call, back, tell, got, look, called, told, backed, turn, Ready}
 use Rattle.engine.proofs.Frames.{Looks-ok, Works-ok, Deep, deep-moves}

@@ -7,23 +7,14 @@ use mathlib.Core.Option.{Option, some, none}
 use Prim.Native.Nat.{ℕ, zero, suc, _+_, _-_, _<_, _≤_}
 use native.Mathlib.Omega.{arith}
 use lib.ListN.{length}
-use Rattle.std.proofs.shelf.Tests.{both-ways}
 use Rattle.engine.specs.declared.key.Key.{Key}
 use Rattle.engine.specs.Engine.{Ans, Rules, Inputs, Entry, Kept, Brought, brought, bring, find}
-use Rattle.engine.specs.Theorems.{Falls}
-use Rattle.engine.proofs.Worth.{value, value-asked}
-use Rattle.engine.proofs.Settled.{Fair, Right, Settled, given, stands, settled-bring}
+use Rattle.engine.specs.Theorems.{Falls, value, Settled, given, stands}
+use Rattle.engine.proofs.Worth.{value-asked}
+use Rattle.engine.proofs.Settled.{Fair, Right, settled-bring}
 use Rattle.engine.specs.Machine.{Frame, State, call, back, tell, mean, unwind, left, cost, cost-unwind}
 
 module _ (r : Rules) (i : Inputs) (fall : Falls r) (n : ℕ) (m : Kept) (k : Key) (st : List Frame) (h : Fair r (m .entries)) (l : r .rank k < n - length st) (s : Settled r i (m .entries) k) where
-  pub entry-right : (e : Entry) → r .input k ≡ false → find (m .entries) k ≡ some e → e .ans ≡ value r i k
-  entry-right e p f = go s
-    where
-      go : Settled r i (m .entries) k → e .ans ≡ value r i k
-      go (given q) = absurd (both-ways _ p q)
-      go (stands {e = d} q x y v) =
-        let z : d ≡ e = cc in
-        sym (value-asked r i fall k (e .gots) (e .ans) p (h k e f) (subst (λ (c : Entry). Right r i (c .gots)) z v))
   pub mean-marked : mean r i n (back m (value r i k) st) ≡ mean r i n (call m k st)
   mean-marked = ap (unwind r i n st) (sym (settled-bring r i fall (n - length st) m k h l s))
   cost-some : (x : ℕ) → r .rank k < x → 0 < cost r i x m k

@@ -12,10 +12,10 @@ use Rattle.std.proofs.shelf.Tests.{both-ways}
 use Rattle.engine.specs.declared.key.Key.{Key}
 use Rattle.base.specs.Base.{pick, same}
 use Rattle.engine.specs.Engine.{Ans, Then, ask, done, Rules, Inputs, Got, Entry, Kept, Brought, Bring, brought, bring, find, check, Checked, answers, finish, work}
-use Rattle.engine.specs.Theorems.{Falls, Asked, asks, In-gots, first, later, Among, here, there, No-twice, blank, another}
+use Rattle.engine.specs.Theorems.{Falls, Asked, asks, In-gots, first, later, Among, here, there, No-twice, blank, another, Settled, given, stands, tally}
 use Rattle.engine.proofs.Basics.{pick-true, pick-false, same-true, same-yes, key-cases, key-yes, key-no, answers-more, in-cons, in-more, in-both, in-right, length-answers}
-use Rattle.engine.proofs.Settled.{Fair, Right, Settled, given, stands, All-settled}
-use Rattle.engine.proofs.Steps.{Stale, stale-moves, Step, tally, step-none, stored, stored-settled, stale-not}
+use Rattle.engine.proofs.Settled.{Fair, Right, All-settled}
+use Rattle.engine.proofs.Steps.{Stale, stale-moves, Step, step-none, stored, stored-settled, stale-not}
 use Rattle.engine.specs.Says.{signs-gots, signs-entries}
 use Rattle.engine.proofs.Brings.{Goes}
 use Rattle.engine.specs.Machine.{Frame, State, call, back, tell, mean}

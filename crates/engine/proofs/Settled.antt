@@ -1,5 +1,5 @@
--- Settled keys: inputs, and keys with an entry whose answers are right and whose questions are settled. To bring one changes nothing
--- (settled-bring): this is why asking again tells no rule.
+-- Settled keys: what is settled stays so when entries are stored (settled-lower, settled-store), and to bring a settled key changes
+-- nothing (settled-bring), since the answer of its entry is right (entry-right). This is why asking again tells no rule.
 use mathlib.Core.Path.{_≡_, refl, sym, ap, subst, _∙_}
 use mathlib.Core.Bool.{Bool, true, false}
 use mathlib.Core.List.{List, [], _∷_, _++_}
@@ -7,12 +7,13 @@ use mathlib.Core.Logic.{_⊎_, inl, inr}
 use mathlib.Core.Option.{Option, some, none}
 use Prim.Native.Nat.{ℕ, zero, suc, _+_, _<_, _≤_}
 use native.Mathlib.Omega.{arith}
+use Rattle.std.proofs.shelf.Tests.{both-ways}
 use Rattle.engine.specs.declared.key.Key.{Key}
 use Rattle.base.specs.Base.{pick, same}
 use Rattle.engine.specs.Engine.{Ans, Then, ask, done, Rules, Inputs, worth, Got, Entry, Kept, Brought, Bring, brought, bring, find, store, check, Checked, work, renew}
-use Rattle.engine.specs.Theorems.{Falls, Asked, ends, asks, In-gots, first, later, Honest}
+use Rattle.engine.specs.Theorems.{Falls, Asked, ends, asks, In-gots, first, later, Honest, value, Settled, given, stands}
 use Rattle.engine.proofs.Basics.{pick-true, pick-false, same-yes, key-cases, find-here, find-apart}
-use Rattle.engine.proofs.Worth.{value, asked-lower, value-asked}
+use Rattle.engine.proofs.Worth.{asked-lower, value-asked}
 
 -- entries are honest: as Honest, of the entries alone
 abbrev pub Fair : Rules → List Entry → Type 0
@@ -21,9 +22,6 @@ Fair r es = (k : Key) (e : Entry) → find es k ≡ some e → Asked (r .next k)
 abbrev pub Right : Rules → Inputs → List Got → Type 0
 Right r i gs = (g : Got) → In-gots g gs → value r i (g .key) ≡ g .ans
 
-pub data Settled (r : Rules) (i : Inputs) (es : List Entry) : Key → Type 0 where
-  given : {k : Key} → r .input k ≡ true → Settled r i es k
-  stands : {k : Key} {e : Entry} → r .input k ≡ false → find es k ≡ some e → ((g : Got) → In-gots g (e .gots) → Settled r i es (g .key)) → Right r i (e .gots) → Settled r i es k
 abbrev pub All-settled : Rules → Inputs → List Entry → List Got → Type 0
 All-settled r i es gs = (g : Got) → In-gots g gs → Settled r i es (g .key)
 
@@ -56,3 +54,10 @@ module _ (r : Rules) (i : Inputs) (fall : Falls r) where
     let a = h k e f in
     let c = check-all (bring r i n) m (e .gots) (λ g y. let z = asked-lower r i fall k [] (e .gots) (e .ans) a g y in settled-bring n m (g .key) h (omega arith) (s g y) ∙ ap (brought m) (v g y)) in
     pick-false _ _ p ∙ (ap (renew (bring r i n) r m k) f ∙ (ap (λ (x : Checked). pick (x .same1) (brought (x .kept) (e .ans)) (work (bring r i n) (r .next k) k (suc (r .most k)) [] (x .kept))) c ∙ ap (brought m) (sym (value-asked r i fall k (e .gots) (e .ans) p a v))))
+
+  -- a settled key's entry holds the right answer
+  pub entry-right : (es : List Entry) (k : Key) (e : Entry) → Fair r es → r .input k ≡ false → find es k ≡ some e → Settled r i es k → e .ans ≡ value r i k
+  entry-right es k e h p f (given q) = absurd (both-ways _ p q)
+  entry-right es k e h p f (stands {e = d} q x y v) =
+    let z : d ≡ e = cc in
+    sym (value-asked r i fall k (e .gots) (e .ans) p (h k e f) (subst (λ (c : Entry). Right r i (c .gots)) z v))

@@ -11,22 +11,16 @@ use lib.ListN.{length}
 use Rattle.std.proofs.shelf.Tests.{both-ways}
 use Rattle.engine.specs.declared.key.Key.{Key}
 use Rattle.engine.specs.Engine.{Ans, Then, ask, done, Rules, Inputs, Got, Entry, find, store}
-use Rattle.engine.specs.Theorems.{Falls, Asked, ends, asks, Among, here, there, No-twice, blank, another, In-gots, first, later}
+use Rattle.engine.specs.Theorems.{Falls, Asked, ends, asks, Among, here, there, No-twice, blank, another, In-gots, first, later, value, Settled, given, stands, tally, told-of}
 use Rattle.engine.proofs.Basics.{key-cases, find-here, find-apart, among-cases, among-left, among-right, among-one, no-twice-join}
-use Rattle.engine.proofs.Worth.{value, asked-lower, value-asked}
-use Rattle.engine.proofs.Settled.{Fair, Right, Settled, given, stands, All-settled, settled-lower, settled-store}
+use Rattle.engine.proofs.Worth.{asked-lower, value-asked}
+use Rattle.engine.proofs.Settled.{Fair, Right, All-settled, settled-lower, settled-store}
 
--- how often rules are told for keys, by their entries
-abbrev pub told-of : Option Entry → ℕ
-told-of none = 0
-told-of (some e) = suc (length (e .gots))
-abbrev pub tally : List Entry → List Key → ℕ
-tally es [] = 0
-tally es (j ∷ js) = told-of (find es j) + tally es js
-tally-more : (es : List Entry) (js ls : List Key) → tally es (js ++ ls) ≡ tally es js + tally es ls
+-- the tally of two lists, and of one list by entries that are the same for its keys
+pub tally-more : (es : List Entry) (js ls : List Key) → tally es (js ++ ls) ≡ tally es js + tally es ls
 tally-more es [] ls = omega arith
 tally-more es (j ∷ js) ls = let h = tally-more es js ls in omega arith
-tally-same : (es fs : List Entry) (js : List Key) → ((j : Key) → Among j js → find fs j ≡ find es j) → tally fs js ≡ tally es js
+pub tally-same : (es fs : List Entry) (js : List Key) → ((j : Key) → Among j js → find fs j ≡ find es j) → tally fs js ≡ tally es js
 tally-same es fs [] h = refl
 tally-same es fs (j ∷ js) h = let a = ap told-of (h j here) in let b = tally-same es fs js (λ l x. h l (there x)) in omega arith
 

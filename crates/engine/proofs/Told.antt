@@ -11,10 +11,9 @@ use lib.ListN.{length}
 use Rattle.engine.specs.declared.key.Key.{Key}
 use Rattle.base.specs.Base.{pick}
 use Rattle.engine.specs.Engine.{Ans, Rules, Inputs, Got, Entry, Kept, bring, find, same-key}
-use Rattle.engine.specs.Theorems.{Falls, Honest, Among, here, there, No-twice, blank, another}
+use Rattle.engine.specs.Theorems.{Falls, Honest, Among, here, there, No-twice, blank, another, told-of, tally}
 use Rattle.engine.specs.Says.{signs-gots, signs-entries}
 use Rattle.engine.proofs.Basics.{pick-true, pick-false, key-cases, key-yes, key-no}
-use Rattle.engine.proofs.Steps.{told-of, tally}
 use Rattle.engine.proofs.Brings.{brings, Good}
 
 signs-length : (gs : List Got) → length gs ≤ signs-gots gs

@@ -10,12 +10,8 @@ use lib.Dec.{T, leb, leb→le}
 use Rattle.engine.specs.declared.key.Key.{Key}
 use Rattle.base.specs.Base.{pick}
 use Rattle.engine.specs.Engine.{Ans, Then, ask, done, Rules, Inputs, on-then, follow, worth, Got, answers}
-use Rattle.engine.specs.Theorems.{Falls, Asked, ends, asks, In-gots, first, later}
+use Rattle.engine.specs.Theorems.{Falls, Asked, ends, asks, In-gots, first, later, value}
 use Rattle.engine.proofs.Basics.{pick-true, pick-false}
-
--- what a key is worth, with the least bound that is enough
-abbrev pub value : Rules → Inputs → Key → Ans
-value r i k = worth r i (suc (r .rank k)) k
 
 -- what a rule got so far goes with any end: an entry in the making
 abbrev pub Partial : Rules → Key → List Got → Type 0
