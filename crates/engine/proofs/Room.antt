@@ -12,13 +12,13 @@ use Rattle.std.proofs.shelf.Tests.{both-ways}
 use Rattle.engine.specs.declared.key.Key.{Key}
 use Rattle.base.specs.Base.{pick, same}
 use Rattle.engine.specs.Engine.{Ans, Then, ask, done, Rules, Inputs, Got, Entry, Kept, Brought, Bring, brought, bring, find, check, Checked, answers, finish, work}
-use Rattle.engine.specs.Theorems.{Falls, Asked, asks, In-gots, first, later, Among, here, there, No-twice, blank, another, Settled, given, stands, tally}
+use Rattle.engine.specs.Theorems.{Falls, Asked, asks, In-gots, first, later, Among, here, there, No-twice, blank, another, Settled, given, stands, tally, told-of}
 use Rattle.engine.proofs.Basics.{pick-true, pick-false, same-true, same-yes, key-cases, key-yes, key-no, answers-more, in-cons, in-more, in-both, in-right, length-answers}
 use Rattle.engine.proofs.Settled.{Fair, Right, All-settled}
 use Rattle.engine.proofs.Steps.{Stale, stale-moves, Step, step-none, stored, stored-settled, stale-not}
 use Rattle.engine.specs.Says.{signs-gots, signs-entries}
 use Rattle.engine.proofs.Brings.{Goes}
-use Rattle.engine.specs.Machine.{Frame, State, call, back, tell, mean}
+use Rattle.engine.specs.Machine.{Frame, State, call, back, tell, mean, pending}
 use Rattle.engine.proofs.Invariant.{Holds, kept-of}
 use Rattle.engine.proofs.Future.{Future, unwinds, call-future, tell-future}
 
@@ -58,12 +58,28 @@ log-fits r i n m b js f once s =
   omega arith
 
 -- from every state on the way the rest is a step
-pub future : (r : Rules) (i : Inputs) (fall : Falls r) (n : ℕ) (ws : List Key) (c : State) → Holds r i n ws c → Future r i n (kept-of c) (mean r i n c)
-future r i fall n ws (call m k st) h = call-future r i fall n st m k (h .since .fair) (h .at1 .0) (h .at1 .1)
-future r i fall n ws (back m a st) h = unwinds r i fall n st (brought m a) (h .at1 .0) (h .since .fair) (h .at1 .3) (h .at1 .1) (h .at1 .2)
-future r i fall n ws (tell m k gs st) h =
+pub future : (r : Rules) (i : Inputs) (fall : Falls r) (n : ℕ) (ws : List Key) (g : ℕ) (c : State) → Holds r i n ws g c → Future r i n (kept-of c) (mean r i n c)
+future r i fall n ws g (call m k st) h = call-future r i fall n st m k (h .since .fair) (h .at1 .0) (h .at1 .1)
+future r i fall n ws g (back m a st) h = unwinds r i fall n st (brought m a) (h .at1 .0) (h .since .fair) (h .at1 .3) (h .at1 .1) (h .at1 .2)
+future r i fall n ws g (tell m k gs st) h =
   let t = h .at1 .1 in
   tell-future r i fall n st m k gs (h .since .fair) (h .at1 .0) (t .part) (t .few) (t .right) (t .settled) (t .stale) (h .at1 .2)
 -- so at every state what was worked out so far takes no more words than what is kept at the end
-pub room-so-far : (r : Rules) (i : Inputs) (fall : Falls r) (n : ℕ) (ws : List Key) (c : State) (h : Holds r i n ws c) → sizes (kept-of c .entries) (h .since .js) ≤ signs-entries (mean r i n c .kept .entries)
-room-so-far r i fall n ws c h = log-fits r i n (kept-of c) (mean r i n c) (h .since .js) (future r i fall n ws c h) (h .since .once) (h .since .settled)
+pub room-so-far : (r : Rules) (i : Inputs) (fall : Falls r) (n : ℕ) (ws : List Key) (g : ℕ) (c : State) (h : Holds r i n ws g c) → sizes (kept-of c .entries) (h .since .js) ≤ signs-entries (mean r i n c .kept .entries)
+room-so-far r i fall n ws g c h = log-fits r i n (kept-of c) (mean r i n c) (h .since .js) (future r i fall n ws g c h) (h .since .once) (h .since .settled)
+
+-- and rules were told no more often than what was worked out so far has words, but for the rules that aren't done
+tally-sizes : (es : List Entry) (js : List Key) → tally es js ≤ sizes es js
+tally-sizes es [] = omega arith
+tally-sizes es (j ∷ js) = go (find es j) (tally-sizes es js)
+  where
+    longer : (gs : List Got) → length gs ≤ signs-gots gs
+    longer [] = omega arith
+    longer (g ∷ gs) = let h = longer gs in omega arith
+    go : (o : Option Entry) → tally es js ≤ sizes es js → told-of o + tally es js ≤ size-of o + sizes es js
+    go none ih = omega arith
+    go (some e) ih = let h = longer (e .gots) in omega (arith, h, ih)
+pub told-so-far : (r : Rules) (i : Inputs) (n : ℕ) (ws : List Key) (g : ℕ) (c : State) (h : Holds r i n ws g c) → kept-of c .goes ≤ g + (sizes (kept-of c .entries) (h .since .js) + pending c)
+told-so-far r i n ws g c h =
+  let a = h .since .told in let b = tally-sizes (kept-of c .entries) (h .since .js) in
+  omega (arith, a, b)

@@ -123,3 +123,13 @@ Busy (call m k st) = Unit {0}
 Busy (back m a []) = ⊥
 Busy (back m a (f ∷ st)) = Unit {0}
 Busy (tell m k gs st) = Unit {0}
+
+-- how often the rules were told that aren't done yet: they wait in the stack, or are told next
+abbrev pub pending-in : List Frame → ℕ
+pending-in [] = 0
+pending-in (looks k e g gs ∷ st) = pending-in st
+pending-in (works k gs q ∷ st) = suc (length gs) + pending-in st
+abbrev pub pending : State → ℕ
+pending (call m k st) = pending-in st
+pending (back m a st) = pending-in st
+pending (tell m k gs st) = length gs + pending-in st
