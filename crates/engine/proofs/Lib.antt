@@ -15,3 +15,4 @@ pub mod Future
 pub mod Room
 pub mod Loops
 pub mod Marks
+pub mod Examples

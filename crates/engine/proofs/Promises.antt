@@ -9,6 +9,7 @@ use lib.Dec.{T, leb, leb→le}
 use Rattle.engine.specs.declared.key.Key.{Key}
 use Rattle.engine.specs.Engine.{Rules, Inputs, Kept, Entry, Got, brought, bring, find, worth}
 use Rattle.engine.specs.Theorems.{Falls, Honest, Among, In-gots, Up-to-date, Asked-again, Only-changed, Told-exactly, Told-at-most, Looked-at-once, value}
+use Rattle.engine.specs.Says.{kept}
 use Rattle.engine.proofs.Worth.{worth-above, asked-lower}
 use Rattle.engine.proofs.Settled.{settled-bring, entry-right}
 use Rattle.engine.proofs.Steps.{Stale}
@@ -55,3 +56,7 @@ looked-at-once r i n m k fall l h =
   (b .settled, b .step .stays,
     (λ s. settled-bring r i fall n m k (h .holds) top s ∙ ap (brought m) same-worth),
     (λ e s p f. entry-right r i fall (m .entries) k e (h .holds) p f s ∙ same-worth))
+
+-- with nothing kept, what is kept is honest: the theorems hold from there on, through any bringings and changes of inputs
+pub nothing-honest : (r : Rules) → Honest r (kept [])
+nothing-honest r = record { holds = λ k e f. absurd (let z : _≡_ {A = ℕ} 0 1 = cc in omega arith) }
