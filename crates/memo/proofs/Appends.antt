@@ -1,4 +1,5 @@
--- The whole memo: a record more, a record less.
+-- A record more: the row is in order then, what it holds is what was held with the entry stored over it, and all that stood stands
+-- (append-fits, append-says, append-keeps).
 use mathlib.Core.Path.{_≡_, refl, sym, ap, subst, _∙_}
 use mathlib.Core.Bool.{true, false}
 use mathlib.Core.List.{List, [], _∷_, _++_, append-assoc}

@@ -1,4 +1,5 @@
--- A log, its older parts, and the index.
+-- The index over a log: the head of a bucket leads to the newest record of a key (head-finds), and each record on to the next
+-- (next-finds).
 use mathlib.Core.Path.{_≡_, refl, sym, ap, subst, _∙_}
 use mathlib.Core.Bool.{Bool, true, false, _&&_}
 use mathlib.Core.List.{List, [], _∷_, _++_}

@@ -1,4 +1,4 @@
--- Records, newest first, and the entries that they come to.
+-- Records, newest first, and the entries that they come to: the first record of a key is its entry (find-folded).
 use mathlib.Core.Path.{_≡_, refl, sym, ap, subst, _∙_}
 use mathlib.Core.Bool.{Bool, true, false, _&&_}
 use mathlib.Core.List.{List, [], _∷_, _++_}

@@ -1,4 +1,4 @@
--- The chain of a bucket from any record on.
+-- The chain of a bucket from any record on, to its oldest: for finding out whether a record has an older one of its key.
 use mathlib.Core.Path.{_≡_, refl, sym, ap, subst, _∙_}
 use mathlib.Core.Bool.{Bool, true, false, not}
 use mathlib.Core.List.{List, [], _∷_, _++_}

@@ -1,4 +1,4 @@
--- The entries of a list of records, in order: a key's place is that of its oldest record, and its newest record stands there.
+-- The order of entries: a key's place is that of its oldest record, and what stands there is its newest. Repacking has to keep it.
 use mathlib.Core.Path.{_≡_, refl, sym, ap, subst, _∙_}
 use mathlib.Core.Bool.{Bool, true, false, _&&_}
 use mathlib.Core.List.{List, [], _∷_, _++_, append-assoc}

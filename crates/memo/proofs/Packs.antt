@@ -1,4 +1,4 @@
--- A record, read where it was put.
+-- A record, read where it was put: its size, its entry, and that it is in order.
 use mathlib.Core.Path.{_≡_, refl, sym, ap, subst, _∙_}
 use mathlib.Core.List.{List, [], _∷_, _++_, append-assoc}
 use Prim.Native.Nat.{ℕ, zero, suc, _+_, _-_, _*_, _≤_, _<_}

@@ -1,4 +1,4 @@
--- Places in the memo's row.
+-- Places in the row: depths, records that stand at them, and the search of a key along its chain.
 use mathlib.Core.Path.{_≡_, refl, sym, ap, subst, _∙_}
 use mathlib.Core.Bool.{Bool, true, false, _&&_}
 use mathlib.Core.List.{List, [], _∷_, _++_}

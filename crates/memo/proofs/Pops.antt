@@ -1,4 +1,4 @@
--- A record less; back to a mark; an empty memo.
+-- A record less (pop-popped), so back to a mark (came-back); and the empty memo (empty).
 use mathlib.Core.Path.{_≡_, refl, sym, ap, subst, _∙_}
 use mathlib.Core.List.{List, [], _∷_, _++_}
 use Prim.Native.Nat.{ℕ, zero, suc, _+_, _-_, _*_, _≤_, _<_}

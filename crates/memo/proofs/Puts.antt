@@ -1,4 +1,4 @@
--- Words put over others, and records read where they were put.
+-- Words put over others: lengths, and what stands before and behind.
 use mathlib.Core.Path.{_≡_, refl, sym, ap, subst, _∙_}
 use mathlib.Core.List.{List, [], _∷_, _++_, append-assoc}
 use Prim.Native.Nat.{ℕ, zero, suc, _+_, _-_, _*_, _≤_, _<_}

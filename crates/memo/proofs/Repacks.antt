@@ -1,4 +1,4 @@
--- Repacking: what is kept, gathered and stored again.
+-- Repacking: the entries are gathered in order (Gather), and stored again (Rebuild).
 use mathlib.Core.Path.{_≡_, refl, sym, ap, subst, _∙_}
 use mathlib.Core.Bool.{Bool, true, false, not}
 use mathlib.Core.List.{List, [], _∷_, _++_, append-assoc}

@@ -1,4 +1,5 @@
--- What a caller passes to `append` is the list of things asked.
+-- What a caller hands to `append` for a list of questions is that list (gots-are), and the words of entries are within what room is
+-- promised by (signs-enough).
 use mathlib.Core.Path.{_≡_, refl, sym, ap, _∙_}
 use mathlib.Core.List.{List, [], _∷_, _++_}
 use Prim.Native.Nat.{ℕ, suc, _+_, _*_, _≤_}

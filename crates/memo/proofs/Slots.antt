@@ -1,4 +1,5 @@
--- Two records stand seven words apart at least, so the seventh part of a depth tells records apart: marks of records can stand in a row of their own.
+-- Two records stand seven words apart at least, so the seventh part of a depth tells records apart: marks of records can stand in a row
+-- of their own.
 use mathlib.Core.Path.{_≡_, refl, sym, ap, subst, _∙_}
 use mathlib.Core.List.{List}
 use mathlib.Core.Logic.{_⊎_, inl, inr}

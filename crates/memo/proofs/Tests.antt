@@ -1,4 +1,4 @@
--- The test is what the memo's functions ask for.
+-- The test memo-fits says what Fits says, both ways (fits-to, fits-from).
 use mathlib.Core.Path.{_≡_, refl, sym, ap, subst, _∙_}
 use mathlib.Core.Bool.{Bool, true, false, _&&_}
 use mathlib.Core.List.{List, [], _∷_}

@@ -1,4 +1,4 @@
--- A record's words are what its parts pack to.
+-- A record's words are what its parts pack to, wherever it is moved: for copying records out and in again.
 use mathlib.Core.Path.{_≡_, refl, sym, ap, subst, _∙_}
 use mathlib.Core.List.{List, [], _∷_, _++_, append-assoc}
 use Prim.Native.Nat.{ℕ, zero, suc, _+_, _-_, _*_, _≤_, _<_}
