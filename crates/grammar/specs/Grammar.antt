@@ -9,7 +9,8 @@ use Rattle.base.specs.Base.{pick, opt, on-some, or-else, when1, Word, same, amo
 use Rattle.lexer.specs.Tokens.{Tok, Line, pieces, next, tail1, end-of}
 use Rattle.lexer.specs.Words.{k-use, k-kind, k-rec, k-def, k-let, k-in, k-if, k-then, k-else, t-lp, t-rp, t-comma, t-gets, t-dot, is-name, is-number, digits, is-type, op-at, compares}
 
--- expressions, with places. op: 0 + 1 - 2 * 3 == 4 < 5 and 6 or
+-- expressions, with places: a number; a name; a call of a name with arguments, and where its bracket ends; a field behind a point; an
+-- operator by its number (0 + 1 - 2 * 3 == 4 < 5 and 6 or); an if and a let, with where they begin; brackets, from and behind
 mutual
   pub data E : Type 0 where
     e-num : Tok → E
@@ -25,6 +26,7 @@ mutual
     no : Es
     and-then : E → Es → Es
 
+-- where an expression begins and ends, brackets included
 abbrev pub from-of : E → ℕ
 from-of (e-num t) = t .from
 from-of (e-name t) = t .from
@@ -45,10 +47,13 @@ to-of (e-if n a b c) = to-of c
 to-of (e-let n x a b) = to-of b
 to-of (e-par n e m) = m
 
+-- a field or a parameter, and the word of its type
 pub record Field : Type 0 where
   pub name : Tok
   pub ty : Tok
 
+-- what a line is: nothing; a file used; a kind with its constants; a record with its fields; a def with its parameters, the word of its
+-- result's type and its expression
 pub data Item : Type 0 where
   nothing : Item
   i-use : Tok → Item
@@ -67,6 +72,7 @@ abbrev pub with1 : {A C : Type 0} → Got A → (A → List Tok → Got C) → G
 with1 (it a ts) f = f a ts
 with1 (bad ts) f = bad ts
 
+-- this word is next; a word that passes a test is
 abbrev pub eat : {C : Type 0} → Word → List Tok → (Tok → List Tok → Got C) → Got C
 eat w [] f = bad []
 eat w (t ∷ ts) f = pick (same (t .w) w) (f t ts) (bad (t ∷ ts))

@@ -23,12 +23,14 @@ letter c = (leb 97 c && leb c 122) || ((leb 65 c && leb c 90) || (eqb c 95 || (l
 abbrev pub blank : ℕ → Bool
 blank c = eqb c 32 || (eqb c 13 || eqb c 9)
 
+-- where the cutting of a line stands: between pieces; in a word that began there; behind a first =; in a note
 pub data Mode : Type 0 where
   gap : Mode
   in-word : Word → ℕ → Mode
   equals : ℕ → Mode
   note : Mode
 
+-- the pieces that a byte ends, and where the cutting stands behind it
 pub record Turn : Type 0 where
   pub out : List Tok
   pub mode : Mode
@@ -46,12 +48,14 @@ turns (in-word w f) at c = pick (letter c) (turn [] (in-word (w ++ (c ∷ [])) f
 turns (equals f) at c = pick (eqb c 61) (turn (tok (61 ∷ 61 ∷ []) f (at + 1) ∷ []) gap) (fresh (tok (61 ∷ []) f at ∷ []) at c)
 turns note at c = turn [] note
 
+-- the piece that the line's end ends
 abbrev pub last1 : Mode → ℕ → List Tok
 last1 gap at = []
 last1 (in-word w f) at = tok w f at ∷ []
 last1 (equals f) at = tok (61 ∷ []) f at ∷ []
 last1 note at = []
 
+-- the pieces of the bytes from a place on
 abbrev pub toks : Mode → ℕ → List ℕ → List Tok
 toks m at [] = last1 m at
 toks m at (c ∷ cs) = let t = turns m at c in t .out ++ toks (t .mode) (at + 1) cs
@@ -61,6 +65,7 @@ pub record Line : Type 0 where
   pub start : ℕ
   pub bytes : List ℕ
 
+-- the lines of what is left of a text: s is where the line begins, acc its bytes so far
 abbrev pub cut : ℕ → List ℕ → List ℕ → List Line
 cut s acc [] = record { start = s; bytes = acc } ∷ []
 cut s acc (c ∷ cs) = pick (eqb c 10) (record { start = s; bytes = acc } ∷ cut (1 + (s + length acc)) [] cs) (cut s (acc ++ (c ∷ [])) cs)

@@ -8,6 +8,7 @@ use lib.Dec.{eqb, ltb, leb}
 use Rattle.base.specs.Base.{pick, opt, on-some, or-else, when1, Word, same, among}
 use Rattle.lexer.specs.Tokens.{letter}
 
+-- the reserved words (k-) and the signs (t-), by their bytes
 abbrev pub k-use : Word
 k-use = (117 ∷ 115 ∷ 101 ∷ [])
 
@@ -80,6 +81,7 @@ t-times = (42 ∷ [])
 abbrev pub t-dot : Word
 t-dot = (46 ∷ [])
 
+-- the words that are no names
 abbrev pub kept : List Word
 kept = k-use ∷ k-kind ∷ k-rec ∷ k-def ∷ k-let ∷ k-in ∷ k-if ∷ k-then ∷ k-else ∷ k-and ∷ k-or ∷ k-num ∷ k-bool ∷ []
 
@@ -87,6 +89,7 @@ abbrev pub first : Word → ℕ
 first [] = 0
 first (c ∷ cs) = c
 
+-- it begins with a digit; it is all digits; it is a name; it can stand for a type
 abbrev pub is-number : Word → Bool
 is-number w = leb 48 (first w) && leb (first w) 57
 
