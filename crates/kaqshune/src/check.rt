@@ -1,4 +1,9 @@
 // Files are read and gone over line by line, and what isn't understood is printed.
+ghost use mathlib.Core.Path.{_≡_};
+ghost use Prim.Native.Nat.{ℕ, _≤_};
+ghost use Rattle.std.specs.Of.Vec.{vec-items};
+ghost use Rattle.std.specs.Vec.{made};
+ghost use Rattle.kaqshune.specs.Checked.{Checked};
 use lexer::lines::line_end;
 use parser::code::Span;
 use report::show_line;
@@ -68,29 +73,13 @@ impl Totals {
             }
             let end = line_end(text, from);
             self.lines = self.lines.saturating_add(1);
-            if let Some(place) = self.check_line(heap, &text[from..end])? {
+            if let Some(place) = wrong_place(&mut self.row, &text[from..end])? {
                 self.faults = self.faults.saturating_add(1);
                 print_fault(heap, path, number, &text[from..end], place, out)?;
             }
             from = end.saturating_add(1);
         }
         Ok(())
-    }
-
-    // Where a line isn't understood.
-    fn check_line(&mut self, heap: Global, line: &[u32]) -> Result<Option<Span>, AnyError> {
-        let need = room(line.len()).saturating_add(line.len());
-        if self.row.len() < need {
-            self.row = vec![in heap; 0u32; need.saturating_mul(2)]?;
-        }
-        for (slot, c) in self.row.iter_mut().zip(line) {
-            *slot = *c;
-        }
-        match read_line(&mut self.row[..], line.len(), line.len()) {
-            Ok(_) => Ok(None),
-            Err(Refusal::Wrong(place)) => Ok(Some(place)),
-            Err(Refusal::NoRoom) => Err("a line is too long".into()),
-        }
     }
 
     // How many files, lines and faults there were.
@@ -111,12 +100,37 @@ fn plural(n: u64) -> &'static str {
 }
 
 // Each byte as a word.
-fn widened(heap: Global, bytes: &[u8]) -> Result<Vec<u32>, AllocError> {
+fn widened(heap: Global, bytes: &[u8]) -> Result<Vec<u32>, AllocError>
+    ensures { λ r. ⌜ made r (λ v. vec-items v ≡ now (bytes .entry)) ⌝ }
+{
     let mut words = Vec::with_capacity(heap, bytes.len())?;
     for b in bytes {
         words.push(u32::from(*b))?;
     }
     Ok(words)
+}
+
+// How many words a row needs in which a line of so many bytes is read.
+fn row_len(len: usize) -> usize
+    ensures { λ r. ⌜ len ≤ r ⌝ }
+{
+    len.saturating_add(room(len))
+}
+
+// Where a line isn't understood, if it isn't. It is read in the row, of which nothing is kept.
+fn wrong_place(row: &mut Vec<u32>, line: &[u32]) -> Result<Option<Span>, AnyError>
+    ensures { λ r. ⌜ made r (λ o. Checked (now (line .entry)) o) ⌝ }
+{
+    row.clear();
+    row.extend_from_slice(line)?;
+    row.resize(row_len(line.len()), 0)?;
+    match read_line(&mut row[..], line.len(), line.len()) {
+        Ok(_) => Ok(None),
+        Err(refusal) => match refusal {
+            Refusal::Wrong(place) => Ok(Some(place)),
+            Refusal::NoRoom => Err("a line is too long".into()),
+        },
+    }
 }
 
 // The place and the fault, the line, and a mark under the place.
