@@ -59,6 +59,8 @@ pub record Worked (r : Rules) (i : Inputs) (k : Key) (m : Kept) (so-far : List G
   pub right : Right r i gots
   pub all : All-settled r i (last .entries) gots
   pub is : b ≡ finish k a gots last
+  pub more : List Got
+  pub parts : gots ≡ so-far ++ more
   pub told : last .goes + length so-far ≡ (m .goes + tally (last .entries) js) + suc (length gots)
 
 module _ (r : Rules) (i : Inputs) (fall : Falls r) (n : ℕ) (f : Bring) (ih : Brings r i n f) (b : ℕ) (le : b ≤ n) where
@@ -86,7 +88,7 @@ module _ (r : Rules) (i : Inputs) (fall : Falls r) (n : ℕ) (f : Bring) (ih : B
     where
       go : (t : Then) → r .next k (answers gs) ≡ t → ((gs : List Got) (m : Kept) → Fair r (m .entries) → Right r i gs → All-settled r i (m .entries) gs → ((rest : List Got) (a : Ans) → Asked (r .next k) (answers gs) rest a → Asked (r .next k) [] (gs ++ rest) a) → length (answers gs) ≤ r .most k → r .most k < length (answers gs) + l → Worked r i k m gs (work f (r .next k) k l gs m)) → Worked r i k m gs (work f (r .next k) k (suc l) gs m)
       go (done a) e again =
-        record { js = []; last = went m; a = a; gots = gs; step = step-none r i (r .rank k) (m .entries) (m .worked) h; asked = rw append-nil at (x [] a (ends e)); right = v; all = s; is = rw e refl; told = omega arith }
+        record { js = []; last = went m; a = a; gots = gs; step = step-none r i (r .rank k) (m .entries) (m .worked) h; asked = rw append-nil at (x [] a (ends e)); right = v; all = s; is = rw e refl; more = []; parts = sym (append-nil gs); told = omega arith }
       go (ask j) e again =
         let low = lower r i fall k j (answers gs) e in
         let few = fewer r i fall k j (answers gs) e in
@@ -101,7 +103,7 @@ module _ (r : Rules) (i : Inputs) (fall : Falls r) (n : ℕ) (f : Bring) (ih : B
               (rw answers-more (simp length-append (omega arith))) in
         record { js = one .js ++ w .js; last = w .last; a = w .a; gots = w .gots;
           step = join r i (r .rank k) m (o .kept) (w .last) (one .js) (w .js) (wider r i _ (r .rank k) (went m) (o .kept) (one .js) low (one .step)) (w .step);
-          asked = w .asked; right = w .right; all = w .all; is = rw e (w .is); told = let x = tallied r i (r .rank k) m (o .kept) (w .last) (one .js) (w .js) (wider r i _ (r .rank k) (went m) (o .kept) (one .js) low (one .step)) (w .step) in let y = one .told in let z : w .last .goes + suc (length gs) ≡ (o .kept .goes + tally (w .last .entries) (w .js)) + suc (length (w .gots)) = let u : length (gs ++ (g ∷ [])) ≡ suc (length gs) = simp length-append (omega arith) in subst (λ (v : ℕ). w .last .goes + v ≡ (o .kept .goes + tally (w .last .entries) (w .js)) + suc (length (w .gots))) u (w .told) in omega (arith, x, y, z) }
+          asked = w .asked; right = w .right; all = w .all; is = rw e (w .is); more = g ∷ w .more; parts = w .parts ∙ append-assoc gs (g ∷ []) (w .more); told = let x = tallied r i (r .rank k) m (o .kept) (w .last) (one .js) (w .js) (wider r i _ (r .rank k) (went m) (o .kept) (one .js) low (one .step)) (w .step) in let y = one .told in let z : w .last .goes + suc (length gs) ≡ (o .kept .goes + tally (w .last .entries) (w .js)) + suc (length (w .gots)) = let u : length (gs ++ (g ∷ [])) ≡ suc (length gs) = simp length-append (omega arith) in subst (λ (v : ℕ). w .last .goes + v ≡ (o .kept .goes + tally (w .last .entries) (w .js)) + suc (length (w .gots))) u (w .told) in omega (arith, x, y, z) }
 
 -- after the work, the entry is stored
 pub finished : (r : Rules) (i : Inputs) (fall : Falls r) (m l : Kept) (k : Key) (b : Brought) (js : List Key) → Goes r i (r .rank k) m l js → Stale r i (m .entries) k → Worked r i k l [] b → l .goes ≡ m .goes + tally (l .entries) js → Good r i m k b

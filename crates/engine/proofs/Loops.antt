@@ -8,11 +8,13 @@ use Rattle.engine.specs.declared.key.Key.{Key}
 use Rattle.engine.specs.Engine.{Ans, Rules, Inputs, Kept, Brought, brought, bring}
 use Rattle.engine.specs.Says.{signs-entries}
 use Rattle.engine.specs.Theorems.{Falls, Honest, blank}
-use Rattle.engine.specs.Machine.{Frame, State, call, back, tell, turn, mean, left, Busy, pending}
+use Rattle.engine.specs.Machine.{Frame, State, call, back, tell, turn, mean, left, Busy, pending, state-signs}
 use Rattle.engine.proofs.Means.{mean-turn}
 use Rattle.engine.proofs.Measure.{left-turn}
 use Rattle.engine.proofs.Invariant.{Holds, kept-of, ready, holds-turn}
-use Rattle.engine.proofs.Room.{sizes, room-so-far, told-so-far}
+use Rattle.engine.proofs.Sizes.{sizes}
+use Rattle.engine.proofs.Stacks.{stack-fits}
+use Rattle.engine.proofs.Room.{room-so-far, told-so-far}
 
 -- a loop's invariant: what the state comes to is what was asked for
 pub record On-the-way (r : Rules) (i : Inputs) (m : Kept) (k : Key) (c : State) : Type 0 where
@@ -38,3 +40,6 @@ module _ (r : Rules) (i : Inputs) (fall : Falls r) (m : Kept) (k : Key) where
   -- and rules were told no more often than these words say, but for the rules that aren't done
   pub told-fits : (c : State) (w : On-the-way r i m k c) → kept-of c .goes ≤ m .goes + (sizes (kept-of c .entries) (w .holds .since .js) + pending c)
   told-fits c w = told-so-far r i (suc (r .rank k)) (m .worked) (m .goes) c (w .holds)
+  -- and the stack, with what a rule is about to be told, takes no more words than the end takes
+  pub stack-room : (c : State) (w : On-the-way r i m k c) → state-signs c ≤ signs-entries (bring r i (suc (r .rank k)) m k .kept .entries)
+  stack-room c w = subst (λ (b : Brought). state-signs c ≤ signs-entries (b .kept .entries)) (w .comes) (stack-fits r i fall (suc (r .rank k)) (m .worked) (m .goes) c (w .holds))
