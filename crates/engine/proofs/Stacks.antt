@@ -30,17 +30,17 @@ abbrev pub All-entered : List Entry → List Frame → Type 0
 All-entered es [] = Unit {0}
 All-entered es (fr ∷ st) = Entered es (key-of fr) (frame-signs fr) × All-entered es st
 
-settled-entered : (r : Rules) (i : Inputs) (es : List Entry) (k : Key) → r .input k ≡ false → Settled r i es k → Entered es k 16
+pub settled-entered : (r : Rules) (i : Inputs) (es : List Entry) (k : Key) → r .input k ≡ false → Settled r i es k → Entered es k 16
 settled-entered r i es k p (given q) = absurd (both-ways _ p q)
 settled-entered r i es k p (stands {e = d} q f s v) = (d, f, omega arith)
-worked-entered : (r : Rules) (i : Inputs) (k : Key) (m : Kept) (gs : List Got) (b : Brought) → Worked r i k m gs b → Entered (b .kept .entries) k (16 + signs-gots gs)
+pub worked-entered : (r : Rules) (i : Inputs) (k : Key) (m : Kept) (gs : List Got) (b : Brought) → Worked r i k m gs b → Entered (b .kept .entries) k (16 + signs-gots gs)
 worked-entered r i k m gs b w =
   let e : Entry = record { key = k; ans = w .a; gots = w .gots } in
   let long : 16 + signs-gots gs ≤ size-of (some e) = let x = ap signs-gots (w .parts) in let y = signs-more gs (w .more) in omega (arith, x, y) in
   subst (λ (x : Brought). Entered (x .kept .entries) k (16 + signs-gots gs)) (sym (w .is)) (e, find-here e (w .last .entries), long)
 
 -- an entry that is settled stays
-stays : (r : Rules) (i : Inputs) (n : ℕ) (m : Kept) (b : Brought) (k : Key) (l : ℕ) → Future r i n m b → Settled r i (m .entries) k → Entered (m .entries) k l → Entered (b .kept .entries) k l
+pub stays : (r : Rules) (i : Inputs) (n : ℕ) (m : Kept) (b : Brought) (k : Key) (l : ℕ) → Future r i n m b → Settled r i (m .entries) k → Entered (m .entries) k l → Entered (b .kept .entries) k l
 stays r i n m b k l f s (e, x, y) =
   let unmoved : find (b .kept .entries) k ≡ find (m .entries) k = elim (f .step .others k) [ inl z ↦ absurd (stale-not r i (m .entries) k (f .step .why k z) s) | inr z ↦ z ] in
   (e, unmoved ∙ x, y)
