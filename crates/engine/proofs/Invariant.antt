@@ -27,16 +27,19 @@ pub record Tells-ok (r : Rules) (i : Inputs) (es : List Entry) (k : Key) (gs : L
   pub right : Right r i gs
   pub settled : All-settled r i es gs
   pub stale : Stale r i es k
+
 -- what holds where the machine stands
 abbrev pub At : Rules → Inputs → ℕ → State → Type 0
 At r i n (call m k st) = (r .rank k < n - length st) × Deep r i n (m .entries) k st
 At r i n (back m a st) = (q : Key) × (a ≡ value r i q) × Settled r i (m .entries) q × Deep r i n (m .entries) q st
 At r i n (tell m k gs st) = (r .rank k < n - length st) × Tells-ok r i (m .entries) k gs × Deep r i n (m .entries) k st
+
 -- what is kept in a state
 abbrev pub kept-of : State → Kept
 kept-of (call m k st) = m
 kept-of (back m a st) = m
 kept-of (tell m k gs st) = m
+
 -- what was done since the beginning, when ws had been worked out and rules had been told g times: the keys js were worked out, each
 -- once, and all of them are settled; rules were told for those, and o times for keys that aren't done
 pub record Since (r : Rules) (i : Inputs) (ws : List Key) (g o : ℕ) (m : Kept) : Type 0 where
@@ -46,6 +49,7 @@ pub record Since (r : Rules) (i : Inputs) (ws : List Key) (g o : ℕ) (m : Kept)
   pub once : No-twice js
   pub settled : (j : Key) → Among j js → Settled r i (m .entries) j
   pub told : m .goes ≡ g + (tally (m .entries) js + o)
+
 -- the invariant
 pub record Holds (r : Rules) (i : Inputs) (n : ℕ) (ws : List Key) (g : ℕ) (c : State) : Type 0 where
   pub since : Since r i ws g (pending c) (kept-of c)
@@ -66,34 +70,41 @@ module _ (r : Rules) (i : Inputs) (fall : Falls r) (n : ℕ) (ws : List Key) (g�
 
   on-look : (m : Kept) (k : Key) (e : Entry) (before gs : List Got) (st : List Frame) → Since r i ws g₀ (pending-in st) m → r .rank k < n - length st → r .input k ≡ false → find (m .entries) k ≡ some e → e .gots ≡ before ++ gs → Right r i before → All-settled r i (m .entries) before → Deep r i n (m .entries) k st → Holds r i n ws g₀ (look m k e gs st)
   on-look m k e before [] st z l p f x v s d =
-    let all = x ∙ append-nil before in
-    let right : Right r i (e .gots) = subst (Right r i) (sym all) v in
-    record { since = z; at1 = (k, sym (value-asked r i fall k (e .gots) (e .ans) p (z .fair k e f) right), stands p f (subst (All-settled r i (m .entries)) (sym all) s) right, d) }
+      let all = x ∙ append-nil before in
+      let right : Right r i (e .gots) = subst (Right r i) (sym all) v in
+      record { since = z; at1 = (k, sym (value-asked r i fall k (e .gots) (e .ans) p (z .fair k e f) right), stands p f (subst (All-settled r i (m .entries)) (sym all) s) right, d) }
   on-look m k e before (g ∷ gs) st z l p f x v s d =
-    let low = asked-lower r i fall k [] (e .gots) (e .ans) (z .fair k e f) g (subst (In-gots g) (sym x) (in-right g before (g ∷ gs) first)) in
-    record { since = z; at1 = (omega arith, (record { inner = p; rank = l; found = f; before = before; parts = x; right = v; settled = s }, refl, low, l, d)) }
+      let low = asked-lower r i fall k [] (e .gots) (e .ans) (z .fair k e f) g (subst (In-gots g) (sym x) (in-right g before (g ∷ gs) first)) in
+      record { since = z; at1 = (omega arith, (record { inner = p; rank = l; found = f; before = before; parts = x; right = v; settled = s }, refl, low, l, d)) }
 
   on-told : (m : Kept) (k : Key) (gs : List Got) (st : List Frame) → Since r i ws g₀ (length gs + pending-in st) m → r .rank k < n - length st → Tells-ok r i (m .entries) k gs → Deep r i n (m .entries) k st → (t : Then) → r .next k (answers gs) ≡ t → Holds r i n ws g₀ (told m k gs st t)
   on-told m k gs st z l o d (done a) e =
-    let en : Entry = record { key = k; ans = a; gots = gs } in
-    let asked : Asked (r .next k) [] gs a = rw append-nil at (o .part [] a (ends e)) in
-    let u = stored r i fall (m .entries) (m .worked) en (z .fair) asked (o .right) (o .settled) (o .stale) in
-    let us = stored-settled r i fall (m .entries) (m .worked) en (z .fair) asked (o .right) (o .settled) (o .stale) in
-    record {
-      since = record { fair = u .fair; js = z .js ++ (k ∷ []); worked = ap (λ (x : List Key). x ++ (k ∷ [])) (z .worked) ∙ append-assoc ws (z .js) (k ∷ []);
-        once = no-twice-join (z .js) (k ∷ []) (z .once) (u .once) (λ j x y. stale-not r i (m .entries) k (o .stale) (subst (Settled r i (m .entries)) (among-one j k y) (z .settled j x)));
-        settled = λ j x. elim (among-cases j (z .js) (k ∷ []) x) [ inl y ↦ u .stays j (z .settled j y) | inr y ↦ u .after j y ];
-        told =
-          let a1 = tally-more (store en (m .entries)) (z .js) (k ∷ []) in
-          let a2 = tally-same (m .entries) (store en (m .entries)) (z .js) (λ j x. find-apart en (m .entries) j (λ y. stale-not r i (m .entries) k (o .stale) (subst (Settled r i (m .entries)) (sym y) (z .settled j x)))) in
-          let a3 = stored-told r i fall (m .entries) (m .worked) en (z .fair) asked (o .right) (o .settled) (o .stale) in
-          let a4 = z .told in
-          omega (arith, a1, a2, a3, a4) };
-      at1 = (k, sym (value-asked r i fall k gs a (o .stale .0) asked (o .right)), us, deep-moves r i n (suc (r .rank k)) (m .entries) (m .worked) (store en (m .entries)) (m .worked ++ (k ∷ [])) (k ∷ []) k st u (omega arith) d) }
+      let en : Entry = record { key = k; ans = a; gots = gs } in
+      let asked : Asked (r .next k) [] gs a = rw append-nil at (o .part [] a (ends e)) in
+      let u = stored r i fall (m .entries) (m .worked) en (z .fair) asked (o .right) (o .settled) (o .stale) in
+      let us = stored-settled r i fall (m .entries) (m .worked) en (z .fair) asked (o .right) (o .settled) (o .stale) in
+      record {
+        since = record {
+          fair = u .fair;
+          js = z .js ++ (k ∷ []);
+          worked = ap (λ (x : List Key). x ++ (k ∷ [])) (z .worked) ∙ append-assoc ws (z .js) (k ∷ []);
+          once = no-twice-join (z .js) (k ∷ []) (z .once) (u .once) (λ j x y. stale-not r i (m .entries) k (o .stale) (subst (Settled r i (m .entries)) (among-one j k y) (z .settled j x)));
+          settled = λ j x. elim (among-cases j (z .js) (k ∷ []) x) [ inl y ↦ u .stays j (z .settled j y) | inr y ↦ u .after j y ];
+          told =
+              let a1 = tally-more (store en (m .entries)) (z .js) (k ∷ []) in
+              let a2 = tally-same (m .entries) (store en (m .entries)) (z .js) (λ j x. find-apart en (m .entries) j (λ y. stale-not r i (m .entries) k (o .stale) (subst (Settled r i (m .entries)) (sym y) (z .settled j x)))) in
+              let a3 = stored-told r i fall (m .entries) (m .worked) en (z .fair) asked (o .right) (o .settled) (o .stale) in
+              let a4 = z .told in
+              omega (arith, a1, a2, a3, a4);
+        };
+        at1 = (k, sym (value-asked r i fall k gs a (o .stale .0) asked (o .right)), us, deep-moves r i n (suc (r .rank k)) (m .entries) (m .worked) (store en (m .entries)) (m .worked ++ (k ∷ [])) (k ∷ []) k st u (omega arith) d);
+      }
   on-told m k gs st z l o d (ask q) e =
-    let low = lower r i fall k q (answers gs) e in
-    record { since = record { fair = z .fair; js = z .js; worked = z .worked; once = z .once; settled = z .settled; told = let t = z .told in omega (arith, t) };
-      at1 = (omega arith, (record { inner = o .stale .0; rank = l; part = o .part; asked = e; right = o .right; settled = o .settled; stale = o .stale }, refl, low, l, d)) }
+      let low = lower r i fall k q (answers gs) e in
+      record {
+        since = record { fair = z .fair; js = z .js; worked = z .worked; once = z .once; settled = z .settled; told = let t = z .told in omega (arith, t) };
+        at1 = (omega arith, (record { inner = o .stale .0; rank = l; part = o .part; asked = e; right = o .right; settled = o .settled; stale = o .stale }, refl, low, l, d));
+      }
 
   pub holds-turn : (c : State) → Holds r i n ws g₀ c → Holds r i n ws g₀ (turn r i c)
   holds-turn (call m k st) h = go (r .input k) refl (find (m .entries) k) refl
@@ -107,19 +118,19 @@ module _ (r : Rules) (i : Inputs) (fall : Falls r) (n : ℕ) (ws : List Key) (g�
     where
       go : (t : Bool) → same a (g .ans) ≡ t → At r i n (back m a (looks k e g gs ∷ st)) → Holds r i n ws g₀ (pick t (look m k e gs st) (tell m k [] st))
       go true x (q, v, s, (o, w, lo, hi, d)) =
-        let vg : a ≡ value r i (g .key) = v ∙ ap (value r i) (sym w) in
-        on-look m k e (o .before ++ (g ∷ [])) gs st (h .since) hi (o .inner) (o .found) (o .parts ∙ sym (append-assoc (o .before) (g ∷ []) gs)) (in-more (λ y. value r i (y .key) ≡ y .ans) (o .before) g (o .right) (sym vg ∙ same-true _ _ x)) (in-more (λ y. Settled r i (m .entries) (y .key)) (o .before) g (o .settled) (subst (Settled r i (m .entries)) (sym w) s)) d
+          let vg : a ≡ value r i (g .key) = v ∙ ap (value r i) (sym w) in
+          on-look m k e (o .before ++ (g ∷ [])) gs st (h .since) hi (o .inner) (o .found) (o .parts ∙ sym (append-assoc (o .before) (g ∷ []) gs)) (in-more (λ y. value r i (y .key) ≡ y .ans) (o .before) g (o .right) (sym vg ∙ same-true _ _ x)) (in-more (λ y. Settled r i (m .entries) (y .key)) (o .before) g (o .settled) (subst (Settled r i (m .entries)) (sym w) s)) d
       go false x (q, v, s, (o, w, lo, hi, d)) =
-        let vg : a ≡ value r i (g .key) = v ∙ ap (value r i) (sym w) in
-        record { since = since-same r i ws g₀ (pending-in st) (0 + pending-in st) m (omega arith) (h .since); at1 = (hi, nothing-yet (m .entries) k (o .inner, inr (e, g, o .found, subst (In-gots g) (sym (o .parts)) (in-right g (o .before) (g ∷ gs) first), λ y. both-ways _ x (same-yes _ _ (vg ∙ y)))), d) }
+          let vg : a ≡ value r i (g .key) = v ∙ ap (value r i) (sym w) in
+          record { since = since-same r i ws g₀ (pending-in st) (0 + pending-in st) m (omega arith) (h .since); at1 = (hi, nothing-yet (m .entries) k (o .inner, inr (e, g, o .found, subst (In-gots g) (sym (o .parts)) (in-right g (o .before) (g ∷ gs) first), λ y. both-ways _ x (same-yes _ _ (vg ∙ y)))), d) }
   holds-turn (back m a (works k gs q ∷ st)) h = go (h .at1)
     where
       go : At r i n (back m a (works k gs q ∷ st)) → Holds r i n ws g₀ (tell m k (gs ++ (got q a ∷ [])) st)
       go (q2, v, s, (o, w, lo, hi, d)) =
-        let vq : a ≡ value r i q = v ∙ ap (value r i) (sym w) in
-        let few = fewer r i fall k q (answers gs) (o .asked) in
-        let la = length-answers gs in
-        record { since = since-same r i ws g₀ (suc (length gs) + pending-in st) (length (gs ++ (got q a ∷ [])) + pending-in st) m (simp length-append (omega arith)) (h .since); at1 = (hi, record { part = λ rest c y. rw append-assoc (o .part (got q a ∷ rest) c (asks (o .asked) (rw answers-more at y))); few = simp length-append (omega arith); right = in-more (λ y. value r i (y .key) ≡ y .ans) gs (got q a) (o .right) (sym vq); settled = in-more (λ y. Settled r i (m .entries) (y .key)) gs (got q a) (o .settled) (subst (Settled r i (m .entries)) (sym w) s); stale = o .stale }, d) }
+          let vq : a ≡ value r i q = v ∙ ap (value r i) (sym w) in
+          let few = fewer r i fall k q (answers gs) (o .asked) in
+          let la = length-answers gs in
+          record { since = since-same r i ws g₀ (suc (length gs) + pending-in st) (length (gs ++ (got q a ∷ [])) + pending-in st) m (simp length-append (omega arith)) (h .since); at1 = (hi, record { part = λ rest c y. rw append-assoc (o .part (got q a ∷ rest) c (asks (o .asked) (rw answers-more at y))); few = simp length-append (omega arith); right = in-more (λ y. value r i (y .key) ≡ y .ans) gs (got q a) (o .right) (sym vq); settled = in-more (λ y. Settled r i (m .entries) (y .key)) gs (got q a) (o .settled) (subst (Settled r i (m .entries)) (sym w) s); stale = o .stale }, d) }
   holds-turn (tell m k gs st) h = on-told m k gs st (h .since) (h .at1 .0) (h .at1 .1) (h .at1 .2) (r .next k (answers gs)) refl
 
   -- a turn leaves settled what was settled
@@ -129,6 +140,7 @@ module _ (r : Rules) (i : Inputs) (fall : Falls r) (n : ℕ) (ws : List Key) (g�
       looking : (e : Entry) (gs : List Got) → Settled r i (kept-of (look m k e gs st) .entries) j
       looking e [] = s
       looking e (g ∷ gs) = s
+
       go : (b : Bool) (o : Option Entry) → Settled r i (kept-of (pick b (back m (i k) st) (called m k st o)) .entries) j
       go true o = s
       go false none = s
@@ -145,9 +157,9 @@ module _ (r : Rules) (i : Inputs) (fall : Falls r) (n : ℕ) (ws : List Key) (g�
     where
       go : (t : Then) → r .next k (answers gs) ≡ t → Settled r i (kept-of (told m k gs st t) .entries) j
       go (done a) e =
-        let o = h .at1 .1 in
-        let asked : Asked (r .next k) [] gs a = rw append-nil at (o .part [] a (ends e)) in
-        stored r i fall (m .entries) (m .worked) (record { key = k; ans = a; gots = gs }) (h .since .fair) asked (o .right) (o .settled) (o .stale) .stays j s
+          let o = h .at1 .1 in
+          let asked : Asked (r .next k) [] gs a = rw append-nil at (o .part [] a (ends e)) in
+          stored r i fall (m .entries) (m .worked) (record { key = k; ans = a; gots = gs }) (h .since .fair) asked (o .right) (o .settled) (o .stale) .stays j s
       go (ask q) e = s
 
   -- a key known to be settled is answered at once, and the invariant holds

@@ -28,82 +28,82 @@ use Rattle.engine.proofs.Stacks.{settled-entered, worked-entered, stays}
 pub run-long : (r : Rules) (i : Inputs) (f : List Ans → Then) (as₁ : List Ans) (before : List Got) (g : Got) (gs : List Got) (a : Ans) (hs : List Got) (c : Ans) → Asked f as₁ (before ++ (g ∷ gs)) a → Right r i before → Asked f as₁ hs c → Right r i hs → length (value r i (g .key)) ≤ signs-gots hs
 run-long r i f as₁ [] g gs a [] c (asks p x) v (ends q) w = absurd (let z : _≡_ {A = ℕ} 0 1 = cc in omega arith)
 run-long r i f as₁ [] g gs a (h ∷ hs) c (asks p x) v (asks q y) w =
-  let same-key1 : g .key ≡ h .key = cc in
-  let e : value r i (g .key) ≡ h .ans = ap (value r i) same-key1 ∙ w h first in
-  let l = ap length e in
-  omega (arith, l)
+    let same-key1 : g .key ≡ h .key = cc in
+    let e : value r i (g .key) ≡ h .ans = ap (value r i) same-key1 ∙ w h first in
+    let l = ap length e in
+    omega (arith, l)
 run-long r i f as₁ (b ∷ before) g gs a [] c (asks p x) v (ends q) w = absurd (let z : _≡_ {A = ℕ} 0 1 = cc in omega arith)
 run-long r i f as₁ (b ∷ before) g gs a (h ∷ hs) c (asks p x) v (asks q y) w =
-  let same-key1 : b .key ≡ h .key = cc in
-  let e : b .ans ≡ h .ans = sym (v b first) ∙ (ap (value r i) same-key1 ∙ w h first) in
-  let x1 = subst (λ (z : Ans). Asked f (as₁ ++ (z ∷ [])) (before ++ (g ∷ gs)) a) e x in
-  let ih = run-long r i f (as₁ ++ (h .ans ∷ [])) before g gs a hs c x1 (λ z u. v z (later u)) y (λ z u. w z (later u)) in
-  omega (arith, ih)
+    let same-key1 : b .key ≡ h .key = cc in
+    let e : b .ans ≡ h .ans = sym (v b first) ∙ (ap (value r i) same-key1 ∙ w h first) in
+    let x1 = subst (λ (z : Ans). Asked f (as₁ ++ (z ∷ [])) (before ++ (g ∷ gs)) a) e x in
+    let ih = run-long r i f (as₁ ++ (h .ans ∷ [])) before g gs a hs c x1 (λ z u. v z (later u)) y (λ z u. w z (later u)) in
+    omega (arith, ih)
 
 -- the entry of one key is within all
 entry-within : (es : List Entry) (k : Key) (e : Entry) → find es k ≡ some e → size-of (some e) ≤ signs-entries es
 entry-within es k e f =
-  let a = sizes-signs es (k ∷ []) (another (λ x. elim x [ ]) blank) in
-  let b = ap size-of f in
-  omega (arith, a, b)
+    let a = sizes-signs es (k ∷ []) (another (λ x. elim x [ ]) blank) in
+    let b = ap size-of f in
+    omega (arith, a, b)
 
 -- an answer that comes back to a key that looks at its entry stands in the entry that the key has at the end
 looks-fits : (r : Rules) (i : Inputs) (es fs : List Entry) (l : ℕ) (k : Key) (e : Entry) (g : Got) (gs : List Got) → Fair r es → Looks-ok r i l es k e g gs → Fair r fs → Settled r i fs k → length (value r i (g .key)) ≤ signs-entries fs
 looks-fits r i es fs l k e g gs h o hf (given q) = absurd (both-ways _ (o .inner) q)
 looks-fits r i es fs l k e g gs h o hf (stands {e = d} q f s v) =
-  let old = subst (λ (x : List Got). Asked (r .next k) [] x (e .ans)) (o .parts) (h k e (o .found)) in
-  let a = run-long r i (r .next k) [] (o .before) g gs (e .ans) (d .gots) (d .ans) old (o .right) (hf k d f) v in
-  let b = entry-within fs k d f in
-  omega (arith, a, b)
+    let old = subst (λ (x : List Got). Asked (r .next k) [] x (e .ans)) (o .parts) (h k e (o .found)) in
+    let a = run-long r i (r .next k) [] (o .before) g gs (e .ans) (d .gots) (d .ans) old (o .right) (hf k d f) v in
+    let b = entry-within fs k d f in
+    omega (arith, a, b)
 
 pub back-fits : (r : Rules) (i : Inputs) (fall : Falls r) (n : ℕ) (ws : List Key) (g : ℕ) (m : Kept) (a : Ans) (fr : Frame) (st : List Frame) → Holds r i n ws g (back m a (fr ∷ st)) → length a ≤ signs-entries (mean r i n (back m a (fr ∷ st)) .kept .entries)
 back-fits r i fall n ws g m a fr st h = go fr (h .at1)
   where
     go : (fr : Frame) → (q : Key) × (a ≡ value r i q) × Settled r i (m .entries) q × Deep r i n (m .entries) q (fr ∷ st) → length a ≤ signs-entries (unwind r i n (fr ∷ st) (brought m a) .kept .entries)
     go (looks k e x xs) (q, v, s, (o, w, lo, hi, d)) =
-      let fr1 = looks k e x xs in
-      let b = brought m a in
-      let c = handed r i n st fr1 b in
-      let va = v ∙ ap (value r i) (sym w) in
-      let one = one-more r i fall n st fr1 b (h .since .fair) o hi va (subst (Settled r i (m .entries)) (sym w) s) in
-      let rest = unwinds r i fall n st c k (one .step .fair) (deep-moves r i n (suc (r .rank k)) (m .entries) (m .worked) (c .kept .entries) (c .kept .worked) (one .js) k st (one .step) (omega arith) d) (one .right) (one .settled) in
-      let z = looks-fits r i (m .entries) (unwind r i n st c .kept .entries) (n - length st) k e x xs (h .since .fair) o (rest .step .fair) (rest .step .stays k (one .settled)) in
-      let y = ap length va in
-      omega (arith, y, z)
+        let fr1 = looks k e x xs in
+        let b = brought m a in
+        let c = handed r i n st fr1 b in
+        let va = v ∙ ap (value r i) (sym w) in
+        let one = one-more r i fall n st fr1 b (h .since .fair) o hi va (subst (Settled r i (m .entries)) (sym w) s) in
+        let rest = unwinds r i fall n st c k (one .step .fair) (deep-moves r i n (suc (r .rank k)) (m .entries) (m .worked) (c .kept .entries) (c .kept .worked) (one .js) k st (one .step) (omega arith) d) (one .right) (one .settled) in
+        let z = looks-fits r i (m .entries) (unwind r i n st c .kept .entries) (n - length st) k e x xs (h .since .fair) o (rest .step .fair) (rest .step .stays k (one .settled)) in
+        let y = ap length va in
+        omega (arith, y, z)
     go (works1 k gs q1) (q, v, s, (o, w, lo, hi, d)) =
-      let fr1 = works1 k gs q1 in
-      let b = brought m a in
-      let c = handed r i n st fr1 b in
-      let va = v ∙ ap (value r i) (sym w) in
-      let sa = subst (Settled r i (m .entries)) (sym w) s in
-      let one = one-more r i fall n st fr1 b (h .since .fair) o hi va sa in
-      let rest = unwinds r i fall n st c k (one .step .fair) (deep-moves r i n (suc (r .rank k)) (m .entries) (m .worked) (c .kept .entries) (c .kept .worked) (one .js) k st (one .step) (omega arith) d) (one .right) (one .settled) in
-      let wk = back-worked r i fall (n - suc (length st)) (below r i n st) (brings r i fall (n - suc (length st))) k (omega arith) (n - length st) b gs q1 (h .since .fair) o va sa in
-      let en = stays r i n (c .kept) (unwind r i n st c) k (16 + signs-gots (gs ++ (got q1 a ∷ []))) rest (one .settled) (worked-entered r i k m (gs ++ (got q1 a ∷ [])) c wk) in
-      let x = entry-within (unwind r i n st c .kept .entries) k (en .0) (en .1) in
-      let y = signs-more gs (got q1 a ∷ []) in
-      let z = en .2 in
-      omega (arith, x, y, z)
+        let fr1 = works1 k gs q1 in
+        let b = brought m a in
+        let c = handed r i n st fr1 b in
+        let va = v ∙ ap (value r i) (sym w) in
+        let sa = subst (Settled r i (m .entries)) (sym w) s in
+        let one = one-more r i fall n st fr1 b (h .since .fair) o hi va sa in
+        let rest = unwinds r i fall n st c k (one .step .fair) (deep-moves r i n (suc (r .rank k)) (m .entries) (m .worked) (c .kept .entries) (c .kept .worked) (one .js) k st (one .step) (omega arith) d) (one .right) (one .settled) in
+        let wk = back-worked r i fall (n - suc (length st)) (below r i n st) (brings r i fall (n - suc (length st))) k (omega arith) (n - length st) b gs q1 (h .since .fair) o va sa in
+        let en = stays r i n (c .kept) (unwind r i n st c) k (16 + signs-gots (gs ++ (got q1 a ∷ []))) rest (one .settled) (worked-entered r i k m (gs ++ (got q1 a ∷ [])) c wk) in
+        let x = entry-within (unwind r i n st c .kept .entries) k (en .0) (en .1) in
+        let y = signs-more gs (got q1 a ∷ []) in
+        let z = en .2 in
+        omega (arith, x, y, z)
 
 -- what a settled key is worth stands in its entry
 settled-long : (r : Rules) (i : Inputs) (fall : Falls r) (fs : List Entry) (k : Key) (a : Ans) → Fair r fs → r .input k ≡ false → Settled r i fs k → value r i k ≡ a → length a ≤ signs-entries fs
 settled-long r i fall fs k a h p s v =
-  let en = settled-entered r i fs k p s in
-  let x = entry-within fs k (en .0) (en .1) in
-  let y = ap length (entry-right r i fall fs k (en .0) h p (en .1) s ∙ v) in
-  omega (arith, x, y)
+    let en = settled-entered r i fs k p s in
+    let x = entry-within fs k (en .0) (en .1) in
+    let y = ap length (entry-right r i fall fs k (en .0) h p (en .1) s ∙ v) in
+    omega (arith, x, y)
 
 pub done-fits : (r : Rules) (i : Inputs) (fall : Falls r) (n : ℕ) (ws : List Key) (g : ℕ) (m : Kept) (k : Key) (gs : List Got) (st : List Frame) (a : Ans) → Holds r i n ws g (tell m k gs st) → r .next k (answers gs) ≡ done a → length a ≤ signs-entries (mean r i n (tell m k gs st) .kept .entries)
 done-fits r i fall n ws g m k gs st a h e =
-  let t = h .at1 .1 in
-  let d = h .at1 .2 in
-  let l = h .at1 .0 in
-  let la = length-answers gs in
-  let few = t .few in
-  let w = works r i fall (n - suc (length st)) (below r i n st) (brings r i fall (n - suc (length st))) k (omega arith) (suc (r .most k) - length gs) gs m (h .since .fair) (t .right) (t .settled) (t .part) (omega arith) (omega arith) in
-  let cm = finished-mid r i fall m k _ gs (t .stale) w in
-  let top = working r (below r i n st) k gs m in
-  let rest = unwinds r i fall n st top k (cm .step .fair) (deep-moves r i n (suc (r .rank k)) (m .entries) (m .worked) (top .kept .entries) (top .kept .worked) (cm .js) k st (cm .step) (omega arith) d) (cm .right) (cm .settled) in
-  let s = rest .step .stays k (cm .settled) in
-  let asked : Asked (r .next k) [] gs a = rw append-nil at (t .part [] a (ends e)) in
-  settled-long r i fall (unwind r i n st top .kept .entries) k a (rest .step .fair) (t .stale .0) s (value-asked r i fall k gs a (t .stale .0) asked (t .right))
+    let t = h .at1 .1 in
+    let d = h .at1 .2 in
+    let l = h .at1 .0 in
+    let la = length-answers gs in
+    let few = t .few in
+    let w = works r i fall (n - suc (length st)) (below r i n st) (brings r i fall (n - suc (length st))) k (omega arith) (suc (r .most k) - length gs) gs m (h .since .fair) (t .right) (t .settled) (t .part) (omega arith) (omega arith) in
+    let cm = finished-mid r i fall m k _ gs (t .stale) w in
+    let top = working r (below r i n st) k gs m in
+    let rest = unwinds r i fall n st top k (cm .step .fair) (deep-moves r i n (suc (r .rank k)) (m .entries) (m .worked) (top .kept .entries) (top .kept .worked) (cm .js) k st (cm .step) (omega arith) d) (cm .right) (cm .settled) in
+    let s = rest .step .stays k (cm .settled) in
+    let asked : Asked (r .next k) [] gs a = rw append-nil at (t .part [] a (ends e)) in
+    settled-long r i fall (unwind r i n st top .kept .entries) k a (rest .step .fair) (t .stale .0) s (value-asked r i fall k gs a (t .stale .0) asked (t .right))

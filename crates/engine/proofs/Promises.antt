@@ -21,41 +21,45 @@ good r i n m k fall l h = brings r i fall n m k (h .holds) (leb→le _ _ l)
 
 pub up-to-date : Up-to-date
 up-to-date r i n m k fall l h =
-  let b = good r i n m k fall l h in
-  (b .right ∙ worth-above r i fall (suc (r .rank k)) n k (omega arith) (leb→le _ _ l), record { holds = b .step .fair })
+    let b = good r i n m k fall l h in
+    (b .right ∙ worth-above r i fall (suc (r .rank k)) n k (omega arith) (leb→le _ _ l), record { holds = b .step .fair })
 
 pub asked-again : Asked-again
 asked-again r i n m k fall l h =
-  let b = good r i n m k fall l h in
-  ap (λ x. x .kept) (settled-bring r i fall n (bring r i n m k .kept) k (b .step .fair) (leb→le _ _ l) (b .settled))
+    let b = good r i n m k fall l h in
+    ap (λ x. x .kept) (settled-bring r i fall n (bring r i n m k .kept) k (b .step .fair) (leb→le _ _ l) (b .settled))
 
 pub only-changed : Only-changed
 only-changed r i n m k fall l h = (b .js, b .step .worked, b .step .once, λ j x. reason j (b .step .low j x) (b .step .why j x))
   where
     b : Good r i m k (bring r i n m k)
     b = good r i n m k fall l h
+
     top : r .rank k < n
     top = leb→le _ _ l
+
     reason : (j : Key) → r .rank j < suc (r .rank k) → Stale r i (m .entries) j → (find (m .entries) j ≡ none) ⊎ ((e : Entry) × (g : Got) × (find (m .entries) j ≡ some e) × In-gots g (e .gots) × (worth r i n (g .key) ≡ g .ans → ⊥))
     reason j q (p, inl e) = inl e
     reason j q (p, inr (d, g, e, y, v)) = inr (d, g, e, y, λ w. v (worth-above r i fall (suc (r .rank (g .key))) n (g .key) (omega arith) (let z = asked-lower r i fall j [] (d .gots) (d .ans) (h .holds j d e) g y in omega (arith, top)) ∙ w))
 
 pub told-exactly : Told-exactly
 told-exactly r i n m k fall l h =
-  let b = good r i n m k fall l h in
-  (b .js, b .step .worked, b .step .once, b .told)
+    let b = good r i n m k fall l h in
+    (b .js, b .step .worked, b .step .once, b .told)
 
 pub told-at-most : Told-at-most
 told-at-most r i n m k fall l h = told-bounded r i n m k fall (leb→le _ _ l) h
 
 pub looked-at-once : Looked-at-once
 looked-at-once r i n m k fall l h =
-  let b = good r i n m k fall l h in
-  let top : r .rank k < n = leb→le _ _ l in
-  let same-worth = worth-above r i fall (suc (r .rank k)) n k (omega arith) top in
-  (b .settled, b .step .stays,
-    (λ s. settled-bring r i fall n m k (h .holds) top s ∙ ap (brought m) same-worth),
-    (λ e s p f. entry-right r i fall (m .entries) k e (h .holds) p f s ∙ same-worth))
+    let b = good r i n m k fall l h in
+    let top : r .rank k < n = leb→le _ _ l in
+    let same-worth = worth-above r i fall (suc (r .rank k)) n k (omega arith) top in (
+      b .settled,
+      b .step .stays,
+      (λ s. settled-bring r i fall n m k (h .holds) top s ∙ ap (brought m) same-worth),
+      (λ e s p f. entry-right r i fall (m .entries) k e (h .holds) p f s ∙ same-worth),
+    )
 
 -- with nothing kept, what is kept is honest: the theorems hold from there on, through any bringings and changes of inputs
 pub nothing-honest : (r : Rules) → Honest r (kept [])

@@ -18,6 +18,7 @@ use Rattle.engine.proofs.Worth.{asked-lower, value-asked}
 -- entries are honest: as Honest, of the entries alone
 abbrev pub Fair : Rules → List Entry → Type 0
 Fair r es = (k : Key) (e : Entry) → find es k ≡ some e → Asked (r .next k) [] (e .gots) (e .ans)
+
 -- the answers of these are what the keys are worth now
 abbrev pub Right : Rules → Inputs → List Got → Type 0
 Right r i gs = (g : Got) → In-gots g gs → value r i (g .key) ≡ g .ans
@@ -35,8 +36,9 @@ module _ (r : Rules) (i : Inputs) (fall : Falls r) where
   pub settled-lower : (e : Entry) (es : List Entry) → Fair r es → (q : Key) → Settled r i es q → r .rank q < r .rank (e .key) → Settled r i (store e es) q
   settled-lower e es h q (given p) l = given p
   settled-lower e es h q (stands {e = d} p f s v) l =
-    stands p (find-apart e es q (λ x. let y = ap (r .rank) x in omega arith) ∙ f)
+      stands p (find-apart e es q (λ x. let y = ap (r .rank) x in omega arith) ∙ f)
       (λ g y. let z = asked-lower r i fall q [] (d .gots) (d .ans) (h q d f) g y in settled-lower e es h (g .key) (s g y) (omega arith)) v
+
   -- and when any is, that is settled then
   pub settled-store : (e : Entry) (es : List Entry) → Settled r i (store e es) (e .key) → (q : Key) → Settled r i es q → Settled r i (store e es) q
   settled-store e es n q (given p) = given p
@@ -51,13 +53,13 @@ module _ (r : Rules) (i : Inputs) (fall : Falls r) where
   settled-bring zero m k h l s = absurd (omega arith)
   settled-bring (suc n) m k h l (given p) = pick-true _ _ p ∙ ap (brought m) (sym (pick-true _ _ p))
   settled-bring (suc n) m k h l (stands {e = e} p f s v) =
-    let a = h k e f in
-    let c = check-all (bring r i n) m (e .gots) (λ g y. let z = asked-lower r i fall k [] (e .gots) (e .ans) a g y in settled-bring n m (g .key) h (omega arith) (s g y) ∙ ap (brought m) (v g y)) in
-    pick-false _ _ p ∙ (ap (renew (bring r i n) r m k) f ∙ (ap (λ (x : Checked). pick (x .same1) (brought (x .kept) (e .ans)) (work (bring r i n) (r .next k) k (suc (r .most k)) [] (x .kept))) c ∙ ap (brought m) (sym (value-asked r i fall k (e .gots) (e .ans) p a v))))
+      let a = h k e f in
+      let c = check-all (bring r i n) m (e .gots) (λ g y. let z = asked-lower r i fall k [] (e .gots) (e .ans) a g y in settled-bring n m (g .key) h (omega arith) (s g y) ∙ ap (brought m) (v g y)) in
+      pick-false _ _ p ∙ (ap (renew (bring r i n) r m k) f ∙ (ap (λ (x : Checked). pick (x .same1) (brought (x .kept) (e .ans)) (work (bring r i n) (r .next k) k (suc (r .most k)) [] (x .kept))) c ∙ ap (brought m) (sym (value-asked r i fall k (e .gots) (e .ans) p a v))))
 
   -- a settled key's entry holds the right answer
   pub entry-right : (es : List Entry) (k : Key) (e : Entry) → Fair r es → r .input k ≡ false → find es k ≡ some e → Settled r i es k → e .ans ≡ value r i k
   entry-right es k e h p f (given q) = absurd (both-ways _ p q)
   entry-right es k e h p f (stands {e = d} q x y v) =
-    let z : d ≡ e = cc in
-    sym (value-asked r i fall k (e .gots) (e .ans) p (h k e f) (subst (λ (c : Entry). Right r i (c .gots)) z v))
+      let z : d ≡ e = cc in
+      sym (value-asked r i fall k (e .gots) (e .ans) p (h k e f) (subst (λ (c : Entry). Right r i (c .gots)) z v))

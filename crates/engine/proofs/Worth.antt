@@ -29,6 +29,7 @@ follow-same f h g (suc n) as₁ e = go (g as₁) refl (λ bs. follow-same f h g 
 module _ (r : Rules) (i : Inputs) (fall : Falls r) where
   pub lower : (k q : Key) (as₁ : List Ans) → r .next k as₁ ≡ ask q → r .rank q < r .rank k
   lower k q as₁ e = leb→le (suc (r .rank q)) (r .rank k) (fall .lower k q as₁ e .0)
+
   pub fewer : (k q : Key) (as₁ : List Ans) → r .next k as₁ ≡ ask q → length as₁ < r .most k
   fewer k q as₁ e = leb→le (suc (length as₁)) (r .most k) (fall .lower k q as₁ e .1)
 
@@ -36,7 +37,7 @@ module _ (r : Rules) (i : Inputs) (fall : Falls r) where
   worth-above zero l k p q = absurd (omega arith)
   worth-above (suc n) zero k p q = absurd (omega arith)
   worth-above (suc n) (suc l) k p q =
-    ap (pick (r .input k) (i k)) (follow-same (worth r i n) (worth r i l) (r .next k) (suc (r .most k)) [] (λ j bs e. let h = lower k j bs e in worth-above n l j (omega arith) (omega arith)))
+      ap (pick (r .input k) (i k)) (follow-same (worth r i n) (worth r i l) (r .next k) (suc (r .most k)) [] (λ j bs e. let h = lower k j bs e in worth-above n l j (omega arith) (omega arith)))
 
   -- what is asked has a smaller rank
   pub asked-lower : (k : Key) (as₁ : List Ans) (gs : List Got) (a : Ans) → Asked (r .next k) as₁ gs a → (g : Got) → In-gots g gs → r .rank (g .key) < r .rank k
@@ -49,8 +50,8 @@ module _ (r : Rules) (i : Inputs) (fall : Falls r) where
   follow-asked f k zero as₁ gs a x v p q = absurd (omega arith)
   follow-asked f k (suc n) as₁ [] a (ends e) v p q = rw e refl
   follow-asked f k (suc n) as₁ (g ∷ gs) a (asks e x) v p q =
-    rw (e, v g first) (follow-asked f k n (as₁ ++ (g .ans ∷ [])) gs a x (λ h y. v h (later y)) (simp length-append (let h = fewer k (g .key) as₁ e in omega arith)) (simp length-append (omega arith)))
+      rw (e, v g first) (follow-asked f k n (as₁ ++ (g .ans ∷ [])) gs a x (λ h y. v h (later y)) (simp length-append (let h = fewer k (g .key) as₁ e in omega arith)) (simp length-append (omega arith)))
 
   pub value-asked : (k : Key) (gs : List Got) (a : Ans) → r .input k ≡ false → Asked (r .next k) [] gs a → ((g : Got) → In-gots g gs → value r i (g .key) ≡ g .ans) → value r i k ≡ a
   value-asked k gs a p x v =
-    pick-false (i k) _ p ∙ follow-asked (worth r i (r .rank k)) k (suc (r .most k)) [] gs a x (λ g y. let h = asked-lower k [] gs a x g y in worth-above (r .rank k) (suc (r .rank (g .key))) (g .key) h (omega arith) ∙ v g y) (omega arith) (omega arith)
+      pick-false (i k) _ p ∙ follow-asked (worth r i (r .rank k)) k (suc (r .most k)) [] gs a x (λ g y. let h = asked-lower k [] gs a x g y in worth-above (r .rank k) (suc (r .rank (g .key))) (g .key) h (omega arith) ∙ v g y) (omega arith) (omega arith)

@@ -17,6 +17,7 @@ pub data Frame : Type 0 where
   looks : Key → Entry → Got → List Got → Frame
   -- a key whose rule is being told: what it got so far, and what it asked now
   works : Key → List Got → Key → Frame
+
 -- where the machine stands; the list is its stack, the newest frame first
 pub data State : Type 0 where
   -- bring a key
@@ -25,6 +26,7 @@ pub data State : Type 0 where
   back : Kept → Ans → List Frame → State
   -- tell a rule what it got
   tell : Kept → Key → List Got → List Frame → State
+
 abbrev pub got : Key → Ans → Got
 got q a = record { key = q; ans = a }
 
@@ -32,19 +34,23 @@ got q a = record { key = q; ans = a }
 abbrev pub look : Kept → Key → Entry → List Got → List Frame → State
 look m k e [] st = back m (e .ans) st
 look m k e (g ∷ gs) st = call m (g .key) (looks k e g gs ∷ st)
+
 -- a key that is no input is brought, by the entry that it has
 abbrev pub called : Kept → Key → List Frame → Option Entry → State
 called m k st none = tell m k [] st
 called m k st (some e) = look m k e (e .gots) st
+
 -- a rule was told something, and does this next
 abbrev pub told : Kept → Key → List Got → List Frame → Then → State
 told m k gs st (done a) = back (finish k a gs (went m) .kept) a st
 told m k gs st (ask q) = call (went m) q (works k gs q ∷ st)
+
 -- an answer comes back to the newest frame
 abbrev pub backed : Kept → Ans → List Frame → State
 backed m a [] = back m a []
 backed m a (looks k e g gs ∷ st) = pick (same a (g .ans)) (look m k e gs st) (tell m k [] st)
 backed m a (works k gs q ∷ st) = tell m k (gs ++ (got q a ∷ [])) st
+
 -- one turn
 abbrev pub turn : Rules → Inputs → State → State
 turn r i (call m k st) = pick (r .input k) (back m (i k) st) (called m k st (find (m .entries) k))
@@ -56,17 +62,21 @@ turn r i (tell m k gs st) = told m k gs st (r .next k (answers gs))
 -- A rule that was told some answers, told to its end
 abbrev pub working : Rules → Bring → Key → List Got → Kept → Brought
 working r f k gs m = work f (r .next k) k (suc (r .most k) - length gs) gs m
+
 -- an entry, once the rest of its questions was looked at
 abbrev pub ended : Rules → Bring → Key → Entry → Checked → Brought
 ended r f k e c = pick (c .same1) (brought (c .kept) (e .ans)) (working r f k [] (c .kept))
+
 -- bringing a key above this stack and one frame
 abbrev pub below : Rules → Inputs → ℕ → List Frame → Bring
 below r i n st = bring r i (n - suc (length st))
+
 -- an answer handed down the whole stack
 abbrev pub unwind : Rules → Inputs → ℕ → List Frame → Brought → Brought
 unwind r i n [] b = b
 unwind r i n (looks k e g gs ∷ st) b = unwind r i n st (pick (same (b .ans) (g .ans)) (ended r (below r i n st) k e (check (below r i n st) (b .kept) gs)) (working r (below r i n st) k [] (b .kept)))
 unwind r i n (works k gs q ∷ st) b = unwind r i n st (working r (below r i n st) k (gs ++ (got q (b .ans) ∷ [])) (b .kept))
+
 -- what a state comes to
 abbrev pub mean : Rules → Inputs → ℕ → State → Brought
 mean r i n (call m k st) = unwind r i n st (bring r i (n - length st) m k)
@@ -83,35 +93,44 @@ Ready r n (tell m k gs st) = length gs ≤ r .most k
 -- comes back to a frame is one turn more
 abbrev pub Cost : Type 0
 Cost = Kept → Key → ℕ
+
 abbrev pub cost-check : Bring → Cost → Kept → List Got → ℕ
 cost-check f c m [] = 0
 cost-check f c m (g ∷ gs) = c m (g .key) + suc (pick (same (f m (g .key) .ans) (g .ans)) (cost-check f c (f m (g .key) .kept) gs) 0)
+
 abbrev pub cost-then : Then → (Key → ℕ) → ℕ
 cost-then (done a) h = 0
 cost-then (ask q) h = h q
+
 abbrev pub cost-work : Bring → Cost → (List Ans → Then) → ℕ → List Got → Kept → ℕ
 cost-work f c g zero gs m = 0
 cost-work f c g (suc l) gs m = suc (cost-then (g (answers gs)) (λ q. c (went m) q + suc (cost-work f c g l (gs ++ (got q (f (went m) q .ans) ∷ [])) (f (went m) q .kept))))
+
 abbrev pub cost-working : Rules → Bring → Cost → Key → List Got → Kept → ℕ
 cost-working r f c k gs m = cost-work f c (r .next k) (suc (r .most k) - length gs) gs m
+
 abbrev pub cost-ended : Rules → Bring → Cost → Key → Checked → ℕ
 cost-ended r f c k d = pick (d .same1) 0 (cost-working r f c k [] (d .kept))
+
 abbrev pub cost-renew : Rules → Bring → Cost → Kept → Key → Option Entry → ℕ
 cost-renew r f c m k none = cost-working r f c k [] m
 cost-renew r f c m k (some e) = cost-check f c m (e .gots) + cost-ended r f c k (check f m (e .gots))
+
 abbrev pub cost : Rules → Inputs → ℕ → Cost
 cost r i zero m k = 0
 cost r i (suc n) m k = suc (pick (r .input k) 0 (cost-renew r (bring r i n) (cost r i n) m k (find (m .entries) k)))
 
 abbrev pub cost-below : Rules → Inputs → ℕ → List Frame → Cost
 cost-below r i n st = cost r i (n - suc (length st))
+
 abbrev pub cost-unwind : Rules → Inputs → ℕ → List Frame → Brought → ℕ
 cost-unwind r i n [] b = 0
 cost-unwind r i n (looks k e g gs ∷ st) b =
-  suc (pick (same (b .ans) (g .ans)) (cost-check (below r i n st) (cost-below r i n st) (b .kept) gs + cost-ended r (below r i n st) (cost-below r i n st) k (check (below r i n st) (b .kept) gs)) (cost-working r (below r i n st) (cost-below r i n st) k [] (b .kept))
+    suc (pick (same (b .ans) (g .ans)) (cost-check (below r i n st) (cost-below r i n st) (b .kept) gs + cost-ended r (below r i n st) (cost-below r i n st) k (check (below r i n st) (b .kept) gs)) (cost-working r (below r i n st) (cost-below r i n st) k [] (b .kept))
     + cost-unwind r i n st (pick (same (b .ans) (g .ans)) (ended r (below r i n st) k e (check (below r i n st) (b .kept) gs)) (working r (below r i n st) k [] (b .kept))))
 cost-unwind r i n (works k gs q ∷ st) b =
-  suc (cost-working r (below r i n st) (cost-below r i n st) k (gs ++ (got q (b .ans) ∷ [])) (b .kept) + cost-unwind r i n st (working r (below r i n st) k (gs ++ (got q (b .ans) ∷ [])) (b .kept)))
+    suc (cost-working r (below r i n st) (cost-below r i n st) k (gs ++ (got q (b .ans) ∷ [])) (b .kept) + cost-unwind r i n st (working r (below r i n st) k (gs ++ (got q (b .ans) ∷ [])) (b .kept)))
+
 -- the measure: it falls by one with each turn
 abbrev pub left : Rules → Inputs → ℕ → State → ℕ
 left r i n (call m k st) = cost r i (n - length st) m k + cost-unwind r i n st (bring r i (n - length st) m k)
@@ -130,6 +149,7 @@ abbrev pub pending-in : List Frame → ℕ
 pending-in [] = 0
 pending-in (looks k e g gs ∷ st) = pending-in st
 pending-in (works k gs q ∷ st) = suc (length gs) + pending-in st
+
 abbrev pub pending : State → ℕ
 pending (call m k st) = pending-in st
 pending (back m a st) = pending-in st
@@ -139,9 +159,11 @@ pending (tell m k gs st) = length gs + pending-in st
 abbrev pub frame-signs : Frame → ℕ
 frame-signs (looks k e g gs) = 16
 frame-signs (works k gs q) = 16 + signs-gots gs
+
 abbrev pub stack-signs : List Frame → ℕ
 stack-signs [] = 0
 stack-signs (fr ∷ st) = frame-signs fr + stack-signs st
+
 abbrev pub state-signs : State → ℕ
 state-signs (call m k st) = stack-signs st
 state-signs (back m a st) = stack-signs st

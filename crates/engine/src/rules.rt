@@ -21,6 +21,7 @@ pub enum Turn {
 // often it was told: 'book' is what the rules are, 'runs' the count.
 pub trait Rules {
     ghost book: { Self → RuleBook };
+
     ghost runs: { Self → ℕ };
 
     // A key's rank: what its rule asks has a smaller one.
