@@ -1,18 +1,18 @@
 -- A key brought up to date: its answer is what it is worth, it is settled then, and the way there is a step (brings, by induction over
 -- the bound; look for what is looked at, works for what is worked out).
-use mathlib.Core.Path.{_≡_, refl, sym, ap, subst, _∙_}
+use mathlib.Core.Path.{_≡_, refl, sym, subst, _∙_}
 use mathlib.Core.Bool.{Bool, true, false}
 use mathlib.Core.List.{List, [], _∷_, _++_, append-nil, append-assoc}
-use mathlib.Core.Logic.{_⊎_, inl, inr}
+use mathlib.Core.Logic.{inl, inr}
 use mathlib.Core.Option.{Option, some, none}
 use Prim.Native.Nat.{ℕ, zero, suc, _+_, _<_, _≤_}
 use native.Mathlib.Omega.{arith}
 use lib.ListN.{length, length-append}
 use Rattle.std.proofs.shelf.Tests.{both-ways}
 use Rattle.engine.specs.declared.key.Key.{Key}
-use Rattle.base.specs.Base.{pick, same}
-use Rattle.engine.specs.Engine.{Ans, Then, ask, done, Rules, Inputs, Got, Entry, Kept, Brought, Bring, brought, bring, find, store, check, Checked, answers, went, finish, on-next, work, renew}
-use Rattle.engine.specs.Theorems.{Falls, Asked, ends, asks, Among, here, there, No-twice, blank, another, In-gots, first, later, value, Settled, given, stands, tally}
+use Rattle.base.specs.Base.{same}
+use Rattle.engine.specs.Engine.{Ans, Then, ask, done, Rules, Inputs, Got, Entry, Kept, Brought, Bring, brought, bring, find, check, Checked, answers, went, finish, work, renew}
+use Rattle.engine.specs.Theorems.{Falls, Asked, ends, asks, In-gots, first, later, value, Settled, given, stands, tally}
 use Rattle.engine.proofs.Basics.{pick-true, pick-false, same-true, same-yes, answers-more, in-cons, in-more}
 use Rattle.engine.proofs.Worth.{lower, fewer, asked-lower, value-asked}
 use Rattle.engine.proofs.Settled.{Fair, Right, All-settled}

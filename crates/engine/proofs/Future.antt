@@ -2,23 +2,23 @@
 -- end. The code needs this to know that its room is enough.
 use mathlib.Core.Path.{_≡_, refl, sym, ap, subst, _∙_}
 use mathlib.Core.Bool.{Bool, true, false}
-use mathlib.Core.List.{List, [], _∷_, _++_, append-nil, append-assoc}
-use mathlib.Core.Logic.{_⊎_, inl, inr}
-use mathlib.Core.Option.{Option, some, none}
-use Prim.Native.Nat.{ℕ, zero, suc, _+_, _-_, _<_, _≤_}
+use mathlib.Core.List.{List, [], _∷_, _++_, append-assoc}
+use mathlib.Core.Logic.{inl, inr}
+use mathlib.Core.Option.{some}
+use Prim.Native.Nat.{ℕ, suc, _-_, _<_, _≤_}
 use native.Mathlib.Omega.{arith}
 use lib.ListN.{length, length-append}
 use Rattle.std.proofs.shelf.Tests.{both-ways}
 use Rattle.engine.specs.declared.key.Key.{Key}
 use Rattle.base.specs.Base.{pick, same}
-use Rattle.engine.specs.Engine.{Ans, Then, ask, done, Rules, Inputs, Got, Entry, Kept, Brought, Bring, brought, bring, find, check, Checked, answers, finish, work}
-use Rattle.engine.specs.Theorems.{Falls, Asked, asks, In-gots, first, later, Among, here, there, No-twice, blank, another, value, Settled, given, stands, tally}
-use Rattle.engine.proofs.Basics.{pick-true, pick-false, same-true, same-yes, key-cases, key-yes, key-no, answers-more, in-cons, in-more, in-both, in-right, length-answers}
+use Rattle.engine.specs.Engine.{Rules, Inputs, Got, Entry, Kept, Brought, Bring, brought, find, check, answers, finish}
+use Rattle.engine.specs.Theorems.{Falls, asks, In-gots, first, value, Settled, stands}
+use Rattle.engine.proofs.Basics.{pick-true, pick-false, same-true, same-yes, answers-more, in-more, in-both, in-right, length-answers}
 use Rattle.engine.proofs.Worth.{fewer, asked-lower, value-asked}
 use Rattle.engine.proofs.Settled.{Fair, Right, All-settled}
-use Rattle.engine.proofs.Steps.{Stale, stale-moves, Step, step-none, stored, stored-settled, stale-not}
-use Rattle.engine.proofs.Brings.{Goes, join, wider, tallied, Good, Brings, Seen, all-same, other, Looked, Worked, look, works, finished, brings}
-use Rattle.engine.specs.Machine.{Frame, looks, works as works1, State, call, back, tell, got, working, ended, below, unwind, mean}
+use Rattle.engine.proofs.Steps.{Stale, stale-moves, step-none, stored, stored-settled}
+use Rattle.engine.proofs.Brings.{Goes, join, wider, Good, Brings, Seen, all-same, other, Looked, Worked, look, works, finished, brings}
+use Rattle.engine.specs.Machine.{Frame, looks, works as works1, call, tell, got, working, ended, below, unwind, mean}
 use Rattle.engine.proofs.Worth.{Partial}
 use Rattle.engine.proofs.Frames.{Looks-ok, Works-ok, key-of, asked-of, Frame-ok, Deep, deep-moves}
 

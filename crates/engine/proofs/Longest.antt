@@ -1,27 +1,26 @@
 -- No answer on the way is longer than the words of the entries that are kept at the end: an answer that comes back to a frame stands in the
 -- entry that the waiting key has then (back-fits), and an answer that a rule is done with in its own (done-fits).
-use mathlib.Core.Path.{_≡_, refl, sym, ap, subst, _∙_}
-use mathlib.Core.Bool.{Bool, true, false}
+use mathlib.Core.Path.{_≡_, sym, ap, subst, _∙_}
+use mathlib.Core.Bool.{false}
 use mathlib.Core.List.{List, [], _∷_, _++_, append-nil}
-use mathlib.Core.Logic.{_⊎_, inl, inr}
-use mathlib.Core.Option.{Option, some, none}
-use Prim.Native.Nat.{ℕ, zero, suc, _+_, _-_, _<_, _≤_}
+use mathlib.Core.Option.{some}
+use Prim.Native.Nat.{ℕ, suc, _+_, _-_, _≤_}
 use native.Mathlib.Omega.{arith}
 use lib.ListN.{length}
 use Rattle.std.proofs.shelf.Tests.{both-ways}
 use Rattle.engine.specs.declared.key.Key.{Key}
-use Rattle.engine.specs.Engine.{Ans, Then, ask, done, Rules, Inputs, Got, Entry, Kept, Brought, brought, find, store, answers}
+use Rattle.engine.specs.Engine.{Ans, Then, done, Rules, Inputs, Got, Entry, Kept, brought, find, answers}
 use Rattle.engine.specs.Says.{signs-gots, signs-entries}
-use Rattle.engine.specs.Theorems.{Falls, value, Asked, ends, asks, In-gots, first, later, Among, here, there, No-twice, blank, another, Settled, given, stands}
-use Rattle.engine.specs.Machine.{Frame, looks, works as works1, State, call, back, tell, got, told, turn, working, below, unwind, mean}
+use Rattle.engine.specs.Theorems.{Falls, value, Asked, ends, asks, first, later, blank, another, Settled, given, stands}
+use Rattle.engine.specs.Machine.{Frame, looks, works as works1, back, tell, got, working, below, unwind, mean}
 use Rattle.engine.proofs.Basics.{length-answers}
 use Rattle.engine.proofs.Settled.{Fair, Right, entry-right}
 use Rattle.engine.proofs.Worth.{value-asked}
 use Rattle.engine.proofs.Brings.{works, brings}
-use Rattle.engine.proofs.Sizes.{size-of, sizes, sizes-signs, signs-more}
-use Rattle.engine.proofs.Frames.{Looks-ok, Works-ok, key-of, asked-of, Frame-ok, Deep, deep-moves}
+use Rattle.engine.proofs.Sizes.{size-of, sizes-signs, signs-more}
+use Rattle.engine.proofs.Frames.{Looks-ok, Deep, deep-moves}
 use Rattle.engine.proofs.Invariant.{Holds}
-use Rattle.engine.proofs.Future.{finished-mid, back-worked, Future, handed, unwind-one, one-more, unwinds}
+use Rattle.engine.proofs.Future.{finished-mid, back-worked, handed, one-more, unwinds}
 use Rattle.engine.proofs.Stacks.{settled-entered, worked-entered, stays}
 
 -- two runs of a rule over right answers go the same way: the question behind 'before' is asked in the other run too

@@ -2,9 +2,9 @@
 -- (again) and leaves less to do (less), and an answer with an empty stack is what 'bring' says (at-end). On the way all that is held takes
 -- no more words than the entries at the end: what was worked out (fits), the stack (stack-room), an answer (back-room, done-room); and
 -- rules were told no more often than that (told-fits).
-use mathlib.Core.Path.{_≡_, refl, sym, ap, subst, _∙_}
+use mathlib.Core.Path.{_≡_, sym, ap, subst, _∙_}
 use mathlib.Core.List.{List, [], _∷_, append-nil}
-use Prim.Native.Nat.{ℕ, zero, suc, _+_, _-_, _<_, _≤_}
+use Prim.Native.Nat.{ℕ, suc, _+_, _-_, _<_, _≤_}
 use native.Mathlib.Omega.{arith}
 use lib.ListN.{length}
 use Rattle.engine.specs.declared.key.Key.{Key}

@@ -1,25 +1,18 @@
 -- Room: what was worked out so far in a bringing takes no more words than what is kept at its end (log-fits), so a log that is only
 -- added to while a key is brought has room wherever the end has.
-use mathlib.Core.Path.{_≡_, refl, sym, ap, subst, _∙_}
-use mathlib.Core.Bool.{Bool, true, false}
-use mathlib.Core.List.{List, [], _∷_, _++_, append-nil, append-assoc}
-use mathlib.Core.Logic.{_⊎_, inl, inr}
+use mathlib.Core.List.{List, [], _∷_}
+use mathlib.Core.Logic.{inl, inr}
 use mathlib.Core.Option.{Option, some, none}
-use Prim.Native.Nat.{ℕ, zero, suc, _+_, _-_, _<_, _≤_}
+use Prim.Native.Nat.{ℕ, _+_, _≤_}
 use native.Mathlib.Omega.{arith}
-use lib.ListN.{length, length-append}
-use Rattle.std.proofs.shelf.Tests.{both-ways}
+use lib.ListN.{length}
 use Rattle.engine.specs.declared.key.Key.{Key}
-use Rattle.base.specs.Base.{pick, same}
-use Rattle.engine.specs.Engine.{Ans, Then, ask, done, Rules, Inputs, Got, Entry, Kept, Brought, Bring, brought, bring, find, check, Checked, answers, finish, work}
-use Rattle.engine.specs.Theorems.{Falls, Asked, asks, In-gots, first, later, Among, here, there, No-twice, blank, another, Settled, given, stands, tally, told-of}
-use Rattle.engine.proofs.Basics.{pick-true, pick-false, same-true, same-yes, key-cases, key-yes, key-no, answers-more, in-cons, in-more, in-both, in-right, length-answers}
-use Rattle.engine.proofs.Settled.{Fair, Right, All-settled}
-use Rattle.engine.proofs.Steps.{Stale, stale-moves, Step, step-none, stored, stored-settled, stale-not}
+use Rattle.engine.specs.Engine.{Rules, Inputs, Got, Entry, Kept, Brought, brought, find}
+use Rattle.engine.specs.Theorems.{Falls, Among, No-twice, Settled, tally, told-of}
+use Rattle.engine.proofs.Steps.{stale-not}
 use Rattle.engine.specs.Says.{signs-gots, signs-entries}
-use Rattle.engine.proofs.Brings.{Goes}
 use Rattle.engine.proofs.Sizes.{size-of, sizes, sizes-same, sizes-signs}
-use Rattle.engine.specs.Machine.{Frame, State, call, back, tell, mean, pending}
+use Rattle.engine.specs.Machine.{State, call, back, tell, mean, pending}
 use Rattle.engine.proofs.Invariant.{Holds, kept-of}
 use Rattle.engine.proofs.Future.{Future, unwinds, call-future, tell-future}
 

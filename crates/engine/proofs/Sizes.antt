@@ -3,14 +3,13 @@ use mathlib.Core.Path.{_≡_, refl, sym, ap, subst}
 use mathlib.Core.List.{List, [], _∷_, _++_}
 use mathlib.Core.Logic.{_⊎_, inl, inr}
 use mathlib.Core.Option.{Option, some, none}
-use Prim.Native.Nat.{ℕ, suc, _+_, _≤_}
+use Prim.Native.Nat.{ℕ, _+_, _≤_}
 use native.Mathlib.Omega.{arith}
 use lib.ListN.{length}
 use Rattle.engine.specs.declared.key.Key.{Key}
-use Rattle.base.specs.Base.{pick}
 use Rattle.engine.specs.Engine.{Got, Entry, find}
 use Rattle.engine.specs.Says.{signs-gots, signs-entries}
-use Rattle.engine.specs.Theorems.{Among, here, there, No-twice, blank, another}
+use Rattle.engine.specs.Theorems.{Among, here, there, No-twice, another}
 use Rattle.engine.proofs.Basics.{pick-true, pick-false, key-cases, key-yes, key-no}
 
 -- the words of the entries of keys

@@ -1,26 +1,26 @@
 -- The stack takes no more words than the entries that are kept at the end (stack-fits): every key that waits in it has an entry then,
 -- whose questions begin with those that the key has got so far.
-use mathlib.Core.Path.{_≡_, refl, sym, ap, subst, _∙_}
-use mathlib.Core.Bool.{Bool, true, false}
+use mathlib.Core.Path.{_≡_, sym, ap, subst, _∙_}
+use mathlib.Core.Bool.{false}
 use mathlib.Core.List.{List, [], _∷_, _++_}
-use mathlib.Core.Logic.{_⊎_, inl, inr}
-use mathlib.Core.Option.{Option, some, none}
-use Prim.Native.Nat.{ℕ, zero, suc, _+_, _-_, _<_, _≤_}
+use mathlib.Core.Logic.{inl, inr}
+use mathlib.Core.Option.{some}
+use Prim.Native.Nat.{ℕ, suc, _+_, _-_, _<_, _≤_}
 use native.Mathlib.Omega.{arith}
 use lib.ListN.{length}
 use Rattle.std.proofs.shelf.Tests.{both-ways}
 use Rattle.engine.specs.declared.key.Key.{Key}
-use Rattle.engine.specs.Engine.{Rules, Inputs, Got, Entry, Kept, Brought, brought, bring, find, answers}
+use Rattle.engine.specs.Engine.{Rules, Inputs, Got, Entry, Kept, Brought, brought, find}
 use Rattle.engine.specs.Says.{signs-gots, signs-entries}
 use Rattle.engine.specs.Theorems.{Falls, value, Among, here, there, No-twice, blank, another, Settled, given, stands}
 use Rattle.engine.specs.Machine.{Frame, looks, works as works1, State, call, back, tell, got, working, below, unwind, mean, frame-signs, stack-signs, state-signs}
 use Rattle.engine.proofs.Basics.{find-here, length-answers}
-use Rattle.engine.proofs.Settled.{Fair, Right, All-settled}
-use Rattle.engine.proofs.Steps.{Stale, stale-not}
-use Rattle.engine.proofs.Brings.{Goes, Worked, works, brings}
+use Rattle.engine.proofs.Settled.{Fair}
+use Rattle.engine.proofs.Steps.{stale-not}
+use Rattle.engine.proofs.Brings.{Worked, works, brings}
 use Rattle.engine.proofs.Sizes.{size-of, sizes, sizes-signs, signs-more}
-use Rattle.engine.proofs.Frames.{Looks-ok, Works-ok, key-of, asked-of, Frame-ok, Deep, deep-moves}
-use Rattle.engine.proofs.Invariant.{Holds, kept-of}
+use Rattle.engine.proofs.Frames.{key-of, asked-of, Frame-ok, Deep, deep-moves}
+use Rattle.engine.proofs.Invariant.{Holds}
 use Rattle.engine.proofs.Future.{Comes, comes, finished-mid, back-worked, Future, handed, unwind-one, one-more, unwinds}
 
 -- a key has an entry of at least so many words; each key of a stack has one of at least what its frame takes

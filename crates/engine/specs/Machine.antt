@@ -1,7 +1,6 @@
 -- The engine as a machine with a stack of its own, for code that must not call itself: states, one turn, what a state comes to ('mean'),
 -- and how many turns are left ('left'). A turn keeps 'mean' (proofs/Means) and lessens 'left' (proofs/Measure). No promise to a caller
 -- cites this file: what the machine comes to is what 'bring' says (proofs/Loops).
-use mathlib.Core.Bool.{Bool, true, false}
 use mathlib.Core.List.{List, [], _∷_, _++_}
 use mathlib.Core.Option.{Option, some, none}
 use Prim.Native.Nat.{ℕ, zero, suc, _+_, _-_, _<_, _≤_}
