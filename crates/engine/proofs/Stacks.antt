@@ -77,22 +77,22 @@ deep-above r i n es k [] d j x = elim x [ ]
 deep-above r i n es k (fr ∷ st) (o, a, lo, hi, d) j here = lo
 deep-above r i n es k (fr ∷ st) (o, a, lo, hi, d) j (there x) = let z = deep-above r i n es (key-of fr) st d j x in omega arith
 
-deep-apart : (r : Rules) (i : Inputs) (n : ℕ) (es : List Entry) (k : Key) (st : List Frame) → Deep r i n es k st → Among k (frame-keys st) → ⊥
+pub deep-apart : (r : Rules) (i : Inputs) (n : ℕ) (es : List Entry) (k : Key) (st : List Frame) → Deep r i n es k st → Among k (frame-keys st) → ⊥
 deep-apart r i n es k st d x = let z = deep-above r i n es k st d k x in omega arith
 
 pub deep-once : (r : Rules) (i : Inputs) (n : ℕ) (es : List Entry) (k : Key) (st : List Frame) → Deep r i n es k st → No-twice (frame-keys st)
 deep-once r i n es k [] d = blank
 deep-once r i n es k (fr ∷ st) (o, a, lo, hi, d) = another (deep-apart r i n es (key-of fr) st d) (deep-once r i n es (key-of fr) st d)
 
-entered-size : (es : List Entry) (k : Key) (l : ℕ) → Entered es k l → l ≤ size-of (find es k)
+pub entered-size : (es : List Entry) (k : Key) (l : ℕ) → Entered es k l → l ≤ size-of (find es k)
 entered-size es k l (e, f, x) = let a = ap size-of f in omega (arith, a, x)
 
-entered-sizes : (es : List Entry) (st : List Frame) → All-entered es st → stack-signs st ≤ sizes es (frame-keys st)
+pub entered-sizes : (es : List Entry) (st : List Frame) → All-entered es st → stack-signs st ≤ sizes es (frame-keys st)
 entered-sizes es [] x = omega arith
 entered-sizes es (fr ∷ st) (y, x) = let a = entered-size es (key-of fr) (frame-signs fr) y in let h = entered-sizes es st x in omega (arith, a, h)
 
 -- a key on top of a stack that comes to something leaves every key of the stack its entry
-on-top : (r : Rules) (i : Inputs) (fall : Falls r) (n : ℕ) (st : List Frame) (m : Kept) (k : Key) (b : Brought) → Comes r i m k b → Deep r i n (m .entries) k st → All-entered (unwind r i n st b .kept .entries) st
+pub on-top : (r : Rules) (i : Inputs) (fall : Falls r) (n : ℕ) (st : List Frame) (m : Kept) (k : Key) (b : Brought) → Comes r i m k b → Deep r i n (m .entries) k st → All-entered (unwind r i n st b .kept .entries) st
 on-top r i fall n st m k b w d =
     unwinds-entered r i fall n st b k (w .step .fair) (deep-moves r i n (suc (r .rank k)) (m .entries) (m .worked) (b .kept .entries) (b .kept .worked) (w .js) k st (w .step) (omega arith) d) (w .right) (w .settled)
 
