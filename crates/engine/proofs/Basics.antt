@@ -1,19 +1,19 @@
 -- Facts on which the other files rest: tests of keys and answers are right, what is found after an entry was stored, members of lists.
-use mathlib.Core.Path.{_≡_, refl, sym, ap, subst, _∙_}
+use mathlib.Core.Path.{_≡_, refl, sym, ap, _∙_}
 use mathlib.Core.Bool.{Bool, true, false, _&&_}
-use mathlib.Core.List.{List, [], _∷_, _++_, append-nil, append-assoc}
+use mathlib.Core.List.{List, [], _∷_, _++_}
 use mathlib.Core.Logic.{_⊎_, inl, inr}
-use mathlib.Core.Option.{Option, some, none}
-use Prim.Native.Nat.{ℕ, zero, suc, _+_}
+use mathlib.Core.Option.{some, none}
+use Prim.Native.Nat.{suc}
 use lib.ListN.{length}
 use lib.Dec.{eqb}
 use borrow.Author.Needs.{needs}
-use Rattle.std.proofs.shelf.Tests.{and-parts, and-from, eqb-true, eq-eqb, both-ways, cases-bool}
+use Rattle.std.proofs.shelf.Tests.{and-parts, and-from, eqb-true, eq-eqb, both-ways}
 use Rattle.std.proofs.shelf.Equals.{compares-decides}
 use Rattle.engine.specs.declared.key.Key.{Key}
 use Rattle.base.specs.Base.{pick, same}
-use Rattle.engine.specs.Engine.{Ans, Then, Got, Entry, find, store, answers, same-key}
-use Rattle.engine.specs.Theorems.{Among, here, there, No-twice, blank, another, In-gots, first, later}
+use Rattle.engine.specs.Engine.{Ans, Got, Entry, find, store, answers, same-key}
+use Rattle.engine.specs.Theorems.{Among, here, there, No-twice, another, In-gots, first, later}
 
 -- a test and its two ways
 pub pick-true : {A : Type 0} {b : Bool} (x y : A) → b ≡ true → pick b x y ≡ x

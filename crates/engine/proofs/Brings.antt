@@ -1,18 +1,18 @@
 -- A key brought up to date: its answer is what it is worth, it is settled then, and the way there is a step (brings, by induction over
 -- the bound; look for what is looked at, works for what is worked out).
-use mathlib.Core.Path.{_≡_, refl, sym, ap, subst, _∙_}
+use mathlib.Core.Path.{_≡_, refl, sym, subst, _∙_}
 use mathlib.Core.Bool.{Bool, true, false}
 use mathlib.Core.List.{List, [], _∷_, _++_, append-nil, append-assoc}
-use mathlib.Core.Logic.{_⊎_, inl, inr}
+use mathlib.Core.Logic.{inl, inr}
 use mathlib.Core.Option.{Option, some, none}
 use Prim.Native.Nat.{ℕ, zero, suc, _+_, _<_, _≤_}
 use native.Mathlib.Omega.{arith}
 use lib.ListN.{length, length-append}
 use Rattle.std.proofs.shelf.Tests.{both-ways}
 use Rattle.engine.specs.declared.key.Key.{Key}
-use Rattle.base.specs.Base.{pick, same}
-use Rattle.engine.specs.Engine.{Ans, Then, ask, done, Rules, Inputs, Got, Entry, Kept, Brought, Bring, brought, bring, find, store, check, Checked, answers, went, finish, on-next, work, renew}
-use Rattle.engine.specs.Theorems.{Falls, Asked, ends, asks, Among, here, there, No-twice, blank, another, In-gots, first, later, value, Settled, given, stands, tally}
+use Rattle.base.specs.Base.{same}
+use Rattle.engine.specs.Engine.{Ans, Then, ask, done, Rules, Inputs, Got, Entry, Kept, Brought, Bring, brought, bring, find, check, Checked, answers, went, finish, work, renew}
+use Rattle.engine.specs.Theorems.{Falls, Asked, ends, asks, In-gots, first, later, value, Settled, given, stands, tally}
 use Rattle.engine.proofs.Basics.{pick-true, pick-false, same-true, same-yes, answers-more, in-cons, in-more}
 use Rattle.engine.proofs.Worth.{lower, fewer, asked-lower, value-asked}
 use Rattle.engine.proofs.Settled.{Fair, Right, All-settled}
@@ -63,6 +63,8 @@ pub record Worked (r : Rules) (i : Inputs) (k : Key) (m : Kept) (so-far : List G
   pub right : Right r i gots
   pub all : All-settled r i (last .entries) gots
   pub is : b ≡ finish k a gots last
+  pub more : List Got
+  pub parts : gots ≡ so-far ++ more
   pub told : last .goes + length so-far ≡ (m .goes + tally (last .entries) js) + suc (length gots)
 
 module _ (r : Rules) (i : Inputs) (fall : Falls r) (n : ℕ) (f : Bring) (ih : Brings r i n f) (b : ℕ) (le : b ≤ n) where
@@ -91,7 +93,7 @@ module _ (r : Rules) (i : Inputs) (fall : Falls r) (n : ℕ) (f : Bring) (ih : B
     where
       go : (t : Then) → r .next k (answers gs) ≡ t → ((gs : List Got) (m : Kept) → Fair r (m .entries) → Right r i gs → All-settled r i (m .entries) gs → ((rest : List Got) (a : Ans) → Asked (r .next k) (answers gs) rest a → Asked (r .next k) [] (gs ++ rest) a) → length (answers gs) ≤ r .most k → r .most k < length (answers gs) + l → Worked r i k m gs (work f (r .next k) k l gs m)) → Worked r i k m gs (work f (r .next k) k (suc l) gs m)
       go (done a) e again =
-          record { js = []; last = went m; a = a; gots = gs; step = step-none r i (r .rank k) (m .entries) (m .worked) h; asked = rw append-nil at (x [] a (ends e)); right = v; all = s; is = rw e refl; told = omega arith }
+          record { js = []; last = went m; a = a; gots = gs; step = step-none r i (r .rank k) (m .entries) (m .worked) h; asked = rw append-nil at (x [] a (ends e)); right = v; all = s; is = rw e refl; more = []; parts = sym (append-nil gs); told = omega arith }
       go (ask j) e again =
           let low = lower r i fall k j (answers gs) e in
           let few = fewer r i fall k j (answers gs) e in
@@ -114,6 +116,8 @@ module _ (r : Rules) (i : Inputs) (fall : Falls r) (n : ℕ) (f : Bring) (ih : B
             right = w .right;
             all = w .all;
             is = rw e (w .is);
+            more = g ∷ w .more;
+            parts = w .parts ∙ append-assoc gs (g ∷ []) (w .more);
             told = let x = tallied r i (r .rank k) m (o .kept) (w .last) (one .js) (w .js) (wider r i _ (r .rank k) (went m) (o .kept) (one .js) low (one .step)) (w .step) in let y = one .told in let z : w .last .goes + suc (length gs) ≡ (o .kept .goes + tally (w .last .entries) (w .js)) + suc (length (w .gots)) = let u : length (gs ++ (g ∷ [])) ≡ suc (length gs) = simp length-append (omega arith) in subst (λ (v : ℕ). w .last .goes + v ≡ (o .kept .goes + tally (w .last .entries) (w .js)) + suc (length (w .gots))) u (w .told) in omega (arith, x, y, z);
           }
 

@@ -3,16 +3,16 @@
 --   sums: a total over inputs, with a layer between that lets little through, so that most changes end there
 --   diamond: each key of a level asks both keys of the level below; every key is worked out once, though the paths double with each level
 --   switch: what a rule asks next hangs on what it was told
-use mathlib.Core.Path.{_≡_, refl, sym, ap, subst, _∙_}
-use mathlib.Core.Bool.{Bool, true, false, _&&_}
-use mathlib.Core.List.{List, [], _∷_, _++_}
-use Prim.Native.Nat.{ℕ, zero, suc, _+_, _<_}
+use mathlib.Core.Path.{_≡_, refl, sym, subst}
+use mathlib.Core.Bool.{Bool, true, false}
+use mathlib.Core.List.{List, [], _∷_}
+use Prim.Native.Nat.{ℕ, zero, suc, _+_}
 use native.Mathlib.Omega.{arith}
 use lib.ListN.{length}
 use lib.Dec.{T, eqb, leb, le→leb}
 use Rattle.engine.specs.declared.key.Key.{Key}
 use Rattle.base.specs.Base.{pick}
-use Rattle.engine.specs.Engine.{Ans, Then, ask, done, Rules, Inputs, worth, Entry, Kept, Brought, bring}
+use Rattle.engine.specs.Engine.{Ans, Then, ask, done, Rules, Inputs, worth, Brought, bring}
 use Rattle.engine.specs.Says.{kept}
 use Rattle.engine.specs.Theorems.{Falls}
 use Rattle.engine.proofs.Promises.{up-to-date, nothing-honest}

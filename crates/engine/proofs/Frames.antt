@@ -1,24 +1,18 @@
 -- The machine's stack in order: what holds of each frame (Frame-ok) and of all together (Deep), and that a step of lower rank leaves it
 -- so (deep-moves).
-use mathlib.Core.Path.{_≡_, refl, sym, ap, subst, _∙_}
-use mathlib.Core.Bool.{Bool, true, false}
-use mathlib.Core.List.{List, [], _∷_, _++_, append-nil, append-assoc}
-use mathlib.Core.Logic.{_⊎_, inl, inr}
-use mathlib.Core.Option.{Option, some, none}
-use Prim.Native.Nat.{ℕ, zero, suc, _+_, _-_, _<_, _≤_}
+use mathlib.Core.Path.{_≡_, _∙_}
+use mathlib.Core.Bool.{false}
+use mathlib.Core.List.{List, [], _∷_, _++_}
+use mathlib.Core.Logic.{inl, inr}
+use mathlib.Core.Option.{some}
+use Prim.Native.Nat.{ℕ, suc, _-_, _<_, _≤_}
 use native.Mathlib.Omega.{arith}
-use lib.ListN.{length, length-append}
-use Rattle.std.proofs.shelf.Tests.{both-ways}
+use lib.ListN.{length}
 use Rattle.engine.specs.declared.key.Key.{Key}
-use Rattle.base.specs.Base.{pick, same}
-use Rattle.engine.specs.Engine.{Ans, Then, ask, done, Rules, Inputs, Got, Entry, Kept, Brought, Bring, brought, bring, find, check, Checked, answers, finish, work}
-use Rattle.engine.specs.Theorems.{Falls, Asked, asks, In-gots, first, later, Among, here, there, No-twice, blank, another, value, Settled, given, stands, tally}
-use Rattle.engine.proofs.Basics.{pick-true, pick-false, same-true, same-yes, key-cases, key-yes, key-no, answers-more, in-cons, in-more}
-use Rattle.engine.proofs.Worth.{fewer, asked-lower, value-asked}
-use Rattle.engine.proofs.Settled.{Fair, Right, All-settled}
-use Rattle.engine.proofs.Steps.{Stale, stale-moves, Step, step-none, stored, stored-settled, stale-not}
-use Rattle.engine.proofs.Brings.{Goes, join, wider, tallied, Good, Brings, Seen, all-same, other, Looked, Worked, look, works, finished, brings}
-use Rattle.engine.specs.Machine.{Frame, looks, works as works1, State, call, back, tell, got, working, ended, below, unwind, mean}
+use Rattle.engine.specs.Engine.{ask, Rules, Inputs, Got, Entry, find, answers}
+use Rattle.engine.proofs.Settled.{Right, All-settled}
+use Rattle.engine.proofs.Steps.{Stale, stale-moves, Step}
+use Rattle.engine.specs.Machine.{Frame, looks, works as works1}
 use Rattle.engine.proofs.Worth.{Partial}
 
 -- a key looks at its entry: the questions before this one are settled, with the answers that stand there

@@ -2,23 +2,23 @@
 -- end. The code needs this to know that its room is enough.
 use mathlib.Core.Path.{_≡_, refl, sym, ap, subst, _∙_}
 use mathlib.Core.Bool.{Bool, true, false}
-use mathlib.Core.List.{List, [], _∷_, _++_, append-nil, append-assoc}
-use mathlib.Core.Logic.{_⊎_, inl, inr}
-use mathlib.Core.Option.{Option, some, none}
-use Prim.Native.Nat.{ℕ, zero, suc, _+_, _-_, _<_, _≤_}
+use mathlib.Core.List.{List, [], _∷_, _++_, append-assoc}
+use mathlib.Core.Logic.{inl, inr}
+use mathlib.Core.Option.{some}
+use Prim.Native.Nat.{ℕ, suc, _-_, _<_, _≤_}
 use native.Mathlib.Omega.{arith}
 use lib.ListN.{length, length-append}
 use Rattle.std.proofs.shelf.Tests.{both-ways}
 use Rattle.engine.specs.declared.key.Key.{Key}
 use Rattle.base.specs.Base.{pick, same}
-use Rattle.engine.specs.Engine.{Ans, Then, ask, done, Rules, Inputs, Got, Entry, Kept, Brought, Bring, brought, bring, find, check, Checked, answers, finish, work}
-use Rattle.engine.specs.Theorems.{Falls, Asked, asks, In-gots, first, later, Among, here, there, No-twice, blank, another, value, Settled, given, stands, tally}
-use Rattle.engine.proofs.Basics.{pick-true, pick-false, same-true, same-yes, key-cases, key-yes, key-no, answers-more, in-cons, in-more, in-both, in-right, length-answers}
+use Rattle.engine.specs.Engine.{Rules, Inputs, Got, Entry, Kept, Brought, Bring, brought, find, check, answers, finish}
+use Rattle.engine.specs.Theorems.{Falls, asks, In-gots, first, value, Settled, stands}
+use Rattle.engine.proofs.Basics.{pick-true, pick-false, same-true, same-yes, answers-more, in-more, in-both, in-right, length-answers}
 use Rattle.engine.proofs.Worth.{fewer, asked-lower, value-asked}
 use Rattle.engine.proofs.Settled.{Fair, Right, All-settled}
-use Rattle.engine.proofs.Steps.{Stale, stale-moves, Step, step-none, stored, stored-settled, stale-not}
-use Rattle.engine.proofs.Brings.{Goes, join, wider, tallied, Good, Brings, Seen, all-same, other, Looked, Worked, look, works, finished, brings}
-use Rattle.engine.specs.Machine.{Frame, looks, works as works1, State, call, back, tell, got, working, ended, below, unwind, mean}
+use Rattle.engine.proofs.Steps.{Stale, stale-moves, step-none, stored, stored-settled}
+use Rattle.engine.proofs.Brings.{Goes, join, wider, Good, Brings, Seen, all-same, other, Looked, Worked, look, works, finished, brings}
+use Rattle.engine.specs.Machine.{Frame, looks, works as works1, call, tell, got, working, ended, below, unwind, mean}
 use Rattle.engine.proofs.Worth.{Partial}
 use Rattle.engine.proofs.Frames.{Looks-ok, Works-ok, key-of, asked-of, Frame-ok, Deep, deep-moves}
 
@@ -89,39 +89,46 @@ module _ (r : Rules) (i : Inputs) (fall : Falls r) (m : Kept) (k : Key) where
       } in
       subst (Comes r i m k) (sym (w .is)) good
 
--- an answer comes back to a key that works
-pub back-works : (r : Rules) (i : Inputs) (fall : Falls r) (n : ℕ) (f : Bring) (ih : Brings r i n f) (k : Key) (le : r .rank k ≤ n) (l : ℕ) (b : Brought) (gs : List Got) (q : Key) → Fair r (b .kept .entries) → Works-ok r i l (b .kept .entries) k gs q → b .ans ≡ value r i q → Settled r i (b .kept .entries) q → Comes r i (b .kept) k (working r f k (gs ++ (got q (b .ans) ∷ [])) (b .kept))
-back-works r i fall n f ih k le l b gs q h o v s =
+-- an answer comes back to a key that works: it is told to its end
+pub back-worked : (r : Rules) (i : Inputs) (fall : Falls r) (n : ℕ) (f : Bring) (ih : Brings r i n f) (k : Key) (le : r .rank k ≤ n) (l : ℕ) (b : Brought) (gs : List Got) (q : Key) → Fair r (b .kept .entries) → Works-ok r i l (b .kept .entries) k gs q → b .ans ≡ value r i q → Settled r i (b .kept .entries) q → Worked r i k (b .kept) (gs ++ (got q (b .ans) ∷ [])) (working r f k (gs ++ (got q (b .ans) ∷ [])) (b .kept))
+back-worked r i fall n f ih k le l b gs q h o v s =
     let few = fewer r i fall k q (answers gs) (o .asked) in
     let la = length-answers gs in
     let more : length (answers (gs ++ (got q (b .ans) ∷ []))) ≡ suc (length gs) = length-answers (gs ++ (got q (b .ans) ∷ [])) ∙ simp length-append (omega arith) in
     let len : length (gs ++ (got q (b .ans) ∷ [])) ≡ suc (length gs) = simp length-append (omega arith) in
-    let w = works r i fall n f ih k le (suc (r .most k) - length (gs ++ (got q (b .ans) ∷ []))) (gs ++ (got q (b .ans) ∷ [])) (b .kept) h
+    works r i fall n f ih k le (suc (r .most k) - length (gs ++ (got q (b .ans) ∷ []))) (gs ++ (got q (b .ans) ∷ [])) (b .kept) h
     (in-more (λ z. value r i (z .key) ≡ z .ans) gs (got q (b .ans)) (o .right) (sym v))
     (in-more (λ z. Settled r i (b .kept .entries) (z .key)) gs (got q (b .ans)) (o .settled) s)
     (λ rest a y. rw append-assoc (o .part (got q (b .ans) ∷ rest) a (asks (o .asked) (rw answers-more at y))))
-    (omega arith) (omega arith) in
-    finished-mid r i fall (b .kept) k _ _ (o .stale) w
+    (omega arith) (omega arith)
 
 -- all that is left to do from an answer on is a step
 pub record Future (r : Rules) (i : Inputs) (n : ℕ) (m : Kept) (b : Brought) : Type 0 where
   pub js : List Key
   pub step : Goes r i n m (b .kept) js
 
-one-more : (r : Rules) (i : Inputs) (fall : Falls r) (n : ℕ) (st : List Frame) (fr : Frame) (b : Brought) → Fair r (b .kept .entries) → Frame-ok r i (n - length st) (b .kept .entries) fr → r .rank (key-of fr) < n - length st → b .ans ≡ value r i (asked-of fr) → Settled r i (b .kept .entries) (asked-of fr) → (c : Brought) × Comes r i (b .kept) (key-of fr) c × (unwind r i n (fr ∷ st) b ≡ unwind r i n st c)
+-- what an answer makes of the newest frame
+abbrev pub handed : Rules → Inputs → ℕ → List Frame → Frame → Brought → Brought
+handed r i n st (looks k e g gs) b = pick (same (b .ans) (g .ans)) (ended r (below r i n st) k e (check (below r i n st) (b .kept) gs)) (working r (below r i n st) k [] (b .kept))
+handed r i n st (works1 k gs q) b = working r (below r i n st) k (gs ++ (got q (b .ans) ∷ [])) (b .kept)
+
+pub unwind-one : (r : Rules) (i : Inputs) (n : ℕ) (st : List Frame) (fr : Frame) (b : Brought) → unwind r i n (fr ∷ st) b ≡ unwind r i n st (handed r i n st fr b)
+unwind-one r i n st (looks k e g gs) b = refl
+unwind-one r i n st (works1 k gs q) b = refl
+
+pub one-more : (r : Rules) (i : Inputs) (fall : Falls r) (n : ℕ) (st : List Frame) (fr : Frame) (b : Brought) → Fair r (b .kept .entries) → Frame-ok r i (n - length st) (b .kept .entries) fr → r .rank (key-of fr) < n - length st → b .ans ≡ value r i (asked-of fr) → Settled r i (b .kept .entries) (asked-of fr) → Comes r i (b .kept) (key-of fr) (handed r i n st fr b)
 one-more r i fall n st (looks k e g gs) b h o hi v s =
-    (_, comes r i (b .kept) k _ (back-looks r i fall (n - suc (length st)) (below r i n st) (brings r i fall (n - suc (length st))) k (omega arith) (n - length st) b e g gs h o v s), refl)
+    comes r i (b .kept) k _ (back-looks r i fall (n - suc (length st)) (below r i n st) (brings r i fall (n - suc (length st))) k (omega arith) (n - length st) b e g gs h o v s)
 one-more r i fall n st (works1 k gs q) b h o hi v s =
-    (_, back-works r i fall (n - suc (length st)) (below r i n st) (brings r i fall (n - suc (length st))) k (omega arith) (n - length st) b gs q h o v s, refl)
+    finished-mid r i fall (b .kept) k _ _ (o .stale) (back-worked r i fall (n - suc (length st)) (below r i n st) (brings r i fall (n - suc (length st))) k (omega arith) (n - length st) b gs q h o v s)
 
 pub unwinds : (r : Rules) (i : Inputs) (fall : Falls r) (n : ℕ) (st : List Frame) (b : Brought) (k : Key) → Fair r (b .kept .entries) → Deep r i n (b .kept .entries) k st → b .ans ≡ value r i k → Settled r i (b .kept .entries) k → Future r i n (b .kept) (unwind r i n st b)
 unwinds r i fall n [] b k h d v s = record { js = []; step = step-none r i n (b .kept .entries) (b .kept .worked) h }
 unwinds r i fall n (fr ∷ st) b k h (o, a, lo, hi, d) v s =
-    let c3 = one-more r i fall n st fr b h o hi (v ∙ ap (value r i) (sym a)) (subst (Settled r i (b .kept .entries)) (sym a) s) in
-    let c = c3 .0 in
-    let w = c3 .1 in
+    let c = handed r i n st fr b in
+    let w = one-more r i fall n st fr b h o hi (v ∙ ap (value r i) (sym a)) (subst (Settled r i (b .kept .entries)) (sym a) s) in
     let rest = unwinds r i fall n st c (key-of fr) (w .step .fair) (deep-moves r i n (suc (r .rank (key-of fr))) (b .kept .entries) (b .kept .worked) (c .kept .entries) (c .kept .worked) (w .js) (key-of fr) st (w .step) (omega arith) d) (w .right) (w .settled) in
-    subst (Future r i n (b .kept)) (sym (c3 .2)) (record { js = w .js ++ rest .js; step = join r i n (b .kept) (c .kept) (unwind r i n st c .kept) (w .js) (rest .js) (wider r i (suc (r .rank (key-of fr))) n (b .kept) (c .kept) (w .js) (omega arith) (w .step)) (rest .step) })
+    subst (Future r i n (b .kept)) (sym (unwind-one r i n st fr b)) (record { js = w .js ++ rest .js; step = join r i n (b .kept) (c .kept) (unwind r i n st c .kept) (w .js) (rest .js) (wider r i (suc (r .rank (key-of fr))) n (b .kept) (c .kept) (w .js) (omega arith) (w .step)) (rest .step) })
 
 -- what comes of a key on top of a stack leads on to the end of the stack
 pub goes-on : (r : Rules) (i : Inputs) (fall : Falls r) (n : ℕ) (st : List Frame) (m : Kept) (k : Key) (b : Brought) → Comes r i m k b → r .rank k < n - length st → Deep r i n (m .entries) k st → Future r i n m (unwind r i n st b)

@@ -3,22 +3,22 @@
 use mathlib.Core.Path.{_≡_, refl, sym, ap, subst, _∙_}
 use mathlib.Core.Bool.{Bool, true, false}
 use mathlib.Core.List.{List, [], _∷_, _++_, append-nil, append-assoc}
-use mathlib.Core.Logic.{_⊎_, inl, inr}
+use mathlib.Core.Logic.{inl, inr}
 use mathlib.Core.Option.{Option, some, none}
-use Prim.Native.Nat.{ℕ, zero, suc, _+_, _-_, _<_, _≤_}
+use Prim.Native.Nat.{ℕ, suc, _+_, _-_, _<_, _≤_}
 use native.Mathlib.Omega.{arith}
 use lib.ListN.{length, length-append}
 use Rattle.std.proofs.shelf.Tests.{both-ways}
 use Rattle.engine.specs.declared.key.Key.{Key}
 use Rattle.base.specs.Base.{pick, same}
-use Rattle.engine.specs.Engine.{Ans, Then, ask, done, Rules, Inputs, Got, Entry, Kept, find, store, answers, went}
-use Rattle.engine.specs.Theorems.{tally, Falls, Asked, ends, asks, In-gots, first, later, Among, here, there, No-twice, blank, another, value, Settled, given, stands}
+use Rattle.engine.specs.Engine.{Then, ask, done, Rules, Inputs, Got, Entry, Kept, find, store, answers}
+use Rattle.engine.specs.Theorems.{tally, Falls, Asked, ends, asks, In-gots, first, Among, No-twice, value, Settled, given, stands}
 use Rattle.engine.proofs.Basics.{find-apart, pick-true, same-true, same-yes, answers-more, in-more, among-cases, among-one, no-twice-join, in-right, length-answers}
 use Rattle.engine.proofs.Worth.{Partial, lower, fewer, asked-lower, value-asked}
 use Rattle.engine.proofs.Settled.{Fair, Right, All-settled}
-use Rattle.engine.proofs.Steps.{tally-more, tally-same, Stale, stale-not, Step, stored, stored-settled, stored-told}
-use Rattle.engine.specs.Machine.{Frame, looks, works, State, call, back, tell, got, look, called, told, backed, turn, Ready, pending-in, pending}
-use Rattle.engine.proofs.Frames.{Looks-ok, Works-ok, Deep, deep-moves}
+use Rattle.engine.proofs.Steps.{tally-more, tally-same, Stale, stale-not, stored, stored-settled, stored-told}
+use Rattle.engine.specs.Machine.{Frame, looks, works, State, call, back, tell, got, look, called, told, turn, Ready, pending-in, pending}
+use Rattle.engine.proofs.Frames.{Deep, deep-moves}
 
 -- a rule is about to be told: what it got is right and settled, and its key has to be worked out
 pub record Tells-ok (r : Rules) (i : Inputs) (es : List Entry) (k : Key) (gs : List Got) : Type 0 where

@@ -1,5 +1,5 @@
 -- Towards the theorems: Basics, Worth, Settled, Steps, Brings, Told, Promises. The machine: Means, Measure, Frames, Invariant, Future,
--- Room, Loops, Marks.
+-- Sizes, Stacks, Longest, Room, Loops, Marks. Examples.
 pub mod Basics
 pub mod Worth
 pub mod Settled
@@ -12,6 +12,9 @@ pub mod Measure
 pub mod Frames
 pub mod Invariant
 pub mod Future
+pub mod Sizes
+pub mod Stacks
+pub mod Longest
 pub mod Room
 pub mod Loops
 pub mod Marks

@@ -2,21 +2,20 @@
 -- it asked. The loop stays on its way (marked-on), there is less to do (marked-less), and the entry's answer is the right one
 -- (marked-answer). What a loop has marked stays settled (proofs/Invariant, settled-turn), and each answer that comes back is that of a
 -- settled key (At), so every such key may be marked.
-use mathlib.Core.Path.{_≡_, refl, sym, ap, subst, _∙_}
-use mathlib.Core.Bool.{Bool, true, false}
-use mathlib.Core.List.{List, [], _∷_}
-use mathlib.Core.Option.{Option, some, none}
-use Prim.Native.Nat.{ℕ, zero, suc, _+_, _-_, _<_, _≤_}
+use mathlib.Core.Path.{_≡_, sym, ap, _∙_}
+use mathlib.Core.Bool.{false}
+use mathlib.Core.List.{List}
+use mathlib.Core.Option.{some}
+use Prim.Native.Nat.{ℕ, zero, suc, _-_, _<_}
 use native.Mathlib.Omega.{arith}
 use lib.ListN.{length}
 use Rattle.engine.specs.declared.key.Key.{Key}
-use Rattle.engine.specs.Engine.{Ans, Rules, Inputs, Entry, Kept, Brought, brought, bring, find}
-use Rattle.engine.specs.Theorems.{Falls, value, Settled, given, stands}
-use Rattle.engine.proofs.Worth.{value-asked}
-use Rattle.engine.proofs.Invariant.{Holds, holds-marked}
+use Rattle.engine.specs.Engine.{Rules, Inputs, Entry, Kept, find}
+use Rattle.engine.specs.Theorems.{Falls, value, Settled}
+use Rattle.engine.proofs.Invariant.{holds-marked}
 use Rattle.engine.proofs.Loops.{On-the-way}
-use Rattle.engine.proofs.Settled.{entry-right, Fair, Right, settled-bring}
-use Rattle.engine.specs.Machine.{Frame, State, call, back, tell, mean, unwind, left, cost, cost-unwind}
+use Rattle.engine.proofs.Settled.{entry-right, Fair, settled-bring}
+use Rattle.engine.specs.Machine.{Frame, call, back, mean, unwind, left, cost, cost-unwind}
 
 module _ (r : Rules) (i : Inputs) (fall : Falls r) (n : ℕ) (m : Kept) (k : Key) (st : List Frame) (h : Fair r (m .entries)) (l : r .rank k < n - length st) (s : Settled r i (m .entries) k) where
   pub mean-marked : mean r i n (back m (value r i k) st) ≡ mean r i n (call m k st)

@@ -1,15 +1,15 @@
 -- A turn of the machine keeps what its state comes to (mean-turn), as long as there is depth left for it.
-use mathlib.Core.Path.{_≡_, refl, sym, ap, subst, _∙_}
+use mathlib.Core.Path.{_≡_, refl, ap, _∙_}
 use mathlib.Core.Bool.{Bool, true, false}
 use mathlib.Core.List.{List, [], _∷_, _++_}
 use mathlib.Core.Option.{Option, some, none}
-use Prim.Native.Nat.{ℕ, zero, suc, pred, _+_, _-_, _<_, _≤_}
+use Prim.Native.Nat.{ℕ, suc, _-_, _≤_}
 use native.Mathlib.Omega.{arith}
 use lib.ListN.{length, length-append}
 use Rattle.engine.specs.declared.key.Key.{Key}
 use Rattle.base.specs.Base.{pick, same}
-use Rattle.engine.specs.Engine.{Ans, Then, ask, done, Rules, Inputs, Got, Entry, Kept, Brought, Bring, brought, bring, find, store, check, Checked, answers, went, finish, on-next, work, renew}
-use Rattle.engine.specs.Machine.{Frame, looks, works, State, call, back, tell, got, look, called, told, backed, turn, working, ended, below, unwind, mean, Ready}
+use Rattle.engine.specs.Engine.{Then, ask, done, Rules, Inputs, Got, Entry, Kept, Brought, Bring, brought, bring, find, check, Checked, answers, went, finish, on-next, work, renew}
+use Rattle.engine.specs.Machine.{Frame, looks, works, State, call, back, tell, got, look, called, told, turn, working, ended, below, unwind, mean, Ready}
 
 pick-map : {A C : Type 0} (h : A → C) (b : Bool) (x y : A) → pick b (h x) (h y) ≡ h (pick b x y)
 pick-map h true x y = refl

@@ -1,15 +1,15 @@
 -- The machine's measure falls by one with each turn (left-turn): a loop over its turns ends.
-use mathlib.Core.Path.{_≡_, refl, sym, ap, subst, _∙_}
+use mathlib.Core.Path.{_≡_, refl, sym, ap, _∙_}
 use mathlib.Core.Bool.{Bool, true, false}
 use mathlib.Core.List.{List, [], _∷_, _++_}
 use mathlib.Core.Option.{Option, some, none}
-use Prim.Native.Nat.{ℕ, zero, suc, _+_, _-_, _<_, _≤_}
+use Prim.Native.Nat.{ℕ, suc, _+_, _-_, _≤_}
 use native.Mathlib.Omega.{arith}
 use lib.ListN.{length, length-append}
 use Rattle.engine.specs.declared.key.Key.{Key}
 use Rattle.base.specs.Base.{pick, same}
-use Rattle.engine.specs.Engine.{Ans, Then, ask, done, Rules, Inputs, Got, Entry, Kept, Brought, Bring, brought, bring, find, check, Checked, answers, went, finish, on-next, work, renew}
-use Rattle.engine.specs.Machine.{Frame, looks, works, State, call, back, tell, got, look, called, told, backed, turn, working, ended, below, unwind, mean, Ready, Cost, cost-check, cost-then, cost-work, cost-working, cost-ended, cost-renew, cost, cost-below, cost-unwind, left, Busy}
+use Rattle.engine.specs.Engine.{Then, ask, done, Rules, Inputs, Got, Entry, Kept, Brought, brought, bring, find, check, Checked, answers, went, finish, on-next, work, renew}
+use Rattle.engine.specs.Machine.{Frame, looks, works, State, call, back, tell, got, look, called, told, turn, working, ended, below, Ready, cost-check, cost-then, cost-work, cost-working, cost-ended, cost-renew, cost, cost-below, cost-unwind, left, Busy}
 use Rattle.engine.proofs.Means.{from-start}
 
 sum-1 : (a b c d : ℕ) → a + suc ((b + c) + d) ≡ ((a + suc b) + c) + d

@@ -1,14 +1,14 @@
 -- The theorems of specs/Theorems, each from what 'brings' says.
-use mathlib.Core.Path.{_≡_, refl, sym, ap, _∙_}
+use mathlib.Core.Path.{_≡_, ap, _∙_}
 use mathlib.Core.Option.{some, none}
 use mathlib.Core.Logic.{_⊎_, inl, inr}
-use mathlib.Core.List.{List, []}
+use mathlib.Core.List.{[]}
 use Prim.Native.Nat.{ℕ, suc, _<_}
 use native.Mathlib.Omega.{arith}
 use lib.Dec.{T, leb, leb→le}
 use Rattle.engine.specs.declared.key.Key.{Key}
 use Rattle.engine.specs.Engine.{Rules, Inputs, Kept, Entry, Got, brought, bring, find, worth}
-use Rattle.engine.specs.Theorems.{Falls, Honest, Among, In-gots, Up-to-date, Asked-again, Only-changed, Told-exactly, Told-at-most, Looked-at-once, value}
+use Rattle.engine.specs.Theorems.{Falls, Honest, In-gots, Up-to-date, Asked-again, Only-changed, Told-exactly, Told-at-most, Looked-at-once}
 use Rattle.engine.specs.Says.{kept}
 use Rattle.engine.proofs.Worth.{worth-above, asked-lower}
 use Rattle.engine.proofs.Settled.{settled-bring, entry-right}

@@ -1,60 +1,20 @@
 -- Room: what was worked out so far in a bringing takes no more words than what is kept at its end (log-fits), so a log that is only
 -- added to while a key is brought has room wherever the end has.
-use mathlib.Core.Path.{_≡_, refl, sym, ap, subst, _∙_}
-use mathlib.Core.Bool.{Bool, true, false}
-use mathlib.Core.List.{List, [], _∷_, _++_, append-nil, append-assoc}
-use mathlib.Core.Logic.{_⊎_, inl, inr}
+use mathlib.Core.List.{List, [], _∷_}
+use mathlib.Core.Logic.{inl, inr}
 use mathlib.Core.Option.{Option, some, none}
-use Prim.Native.Nat.{ℕ, zero, suc, _+_, _-_, _<_, _≤_}
+use Prim.Native.Nat.{ℕ, _+_, _≤_}
 use native.Mathlib.Omega.{arith}
-use lib.ListN.{length, length-append}
-use Rattle.std.proofs.shelf.Tests.{both-ways}
+use lib.ListN.{length}
 use Rattle.engine.specs.declared.key.Key.{Key}
-use Rattle.base.specs.Base.{pick, same}
-use Rattle.engine.specs.Engine.{Ans, Then, ask, done, Rules, Inputs, Got, Entry, Kept, Brought, Bring, brought, bring, find, check, Checked, answers, finish, work}
-use Rattle.engine.specs.Theorems.{Falls, Asked, asks, In-gots, first, later, Among, here, there, No-twice, blank, another, Settled, given, stands, tally, told-of}
-use Rattle.engine.proofs.Basics.{pick-true, pick-false, same-true, same-yes, key-cases, key-yes, key-no, answers-more, in-cons, in-more, in-both, in-right, length-answers}
-use Rattle.engine.proofs.Settled.{Fair, Right, All-settled}
-use Rattle.engine.proofs.Steps.{Stale, stale-moves, Step, step-none, stored, stored-settled, stale-not}
+use Rattle.engine.specs.Engine.{Rules, Inputs, Got, Entry, Kept, Brought, brought, find}
+use Rattle.engine.specs.Theorems.{Falls, Among, No-twice, Settled, tally, told-of}
+use Rattle.engine.proofs.Steps.{stale-not}
 use Rattle.engine.specs.Says.{signs-gots, signs-entries}
-use Rattle.engine.proofs.Brings.{Goes}
-use Rattle.engine.specs.Machine.{Frame, State, call, back, tell, mean, pending}
+use Rattle.engine.proofs.Sizes.{size-of, sizes, sizes-same, sizes-signs}
+use Rattle.engine.specs.Machine.{State, call, back, tell, mean, pending}
 use Rattle.engine.proofs.Invariant.{Holds, kept-of}
 use Rattle.engine.proofs.Future.{Future, unwinds, call-future, tell-future}
-
--- the words of the entries of keys
-abbrev pub size-of : Option Entry → ℕ
-size-of none = 0
-size-of (some e) = 16 + (length (e .ans) + signs-gots (e .gots))
-
-abbrev pub sizes : List Entry → List Key → ℕ
-sizes es [] = 0
-sizes es (j ∷ js) = size-of (find es j) + sizes es js
-
-sizes-none : (js : List Key) → sizes [] js ≡ 0
-sizes-none [] = refl
-sizes-none (j ∷ js) = let h = sizes-none js in omega arith
-
-sizes-same : (es fs : List Entry) (js : List Key) → ((j : Key) → Among j js → find fs j ≡ find es j) → sizes fs js ≡ sizes es js
-sizes-same es fs [] h = refl
-sizes-same es fs (j ∷ js) h = let a = ap size-of (h j here) in let b = sizes-same es fs js (λ l x. h l (there x)) in omega arith
-
-sizes-apart : (e : Entry) (es : List Entry) (js : List Key) → (Among (e .key) js → ⊥) → sizes (e ∷ es) js ≡ sizes es js
-sizes-apart e es js n = sizes-same es (e ∷ es) js (λ j x. pick-false (some e) (find es j) (key-no (e .key) j (λ y. n (subst (λ (z : Key). Among z js) (sym y) x))))
-
-sizes-cons : (e : Entry) (es : List Entry) (js : List Key) → No-twice js → sizes (e ∷ es) js ≤ size-of (some e) + sizes es js
-sizes-cons e es [] t = omega arith
-sizes-cons e es (j ∷ js) (another n t) = go (key-cases (e .key) j) (sizes-cons e es js t)
-  where
-    go : (e .key ≡ j) ⊎ (e .key ≡ j → ⊥) → sizes (e ∷ es) js ≤ size-of (some e) + sizes es js → sizes (e ∷ es) (j ∷ js) ≤ size-of (some e) + sizes es (j ∷ js)
-    go (inl x) ih =
-        let a = ap size-of (pick-true (some e) (find es j) (key-yes (e .key) j x)) in
-        let b = sizes-apart e es js (λ y. n (subst (λ (z : Key). Among z js) x y)) in omega arith
-    go (inr x) ih = let a = ap size-of (pick-false (some e) (find es j) (key-no (e .key) j x)) in omega arith
-
-pub sizes-signs : (es : List Entry) (js : List Key) → No-twice js → sizes es js ≤ signs-entries es
-sizes-signs [] js t = let h = sizes-none js in omega arith
-sizes-signs (e ∷ es) js t = let a = sizes-cons e es js t in let b = sizes-signs es js t in omega arith
 
 -- the log of one bringing: keys worked out so far, all settled; b is what comes at the end
 pub log-fits : (r : Rules) (i : Inputs) (n : ℕ) (m : Kept) (b : Brought) (done-so-far : List Key) → Future r i n m b → No-twice done-so-far → ((j : Key) → Among j done-so-far → Settled r i (m .entries) j) → sizes (m .entries) done-so-far ≤ signs-entries (b .kept .entries)

@@ -1,18 +1,18 @@
 -- Settled keys: what is settled stays so when entries are stored (settled-lower, settled-store), and to bring a settled key changes
 -- nothing (settled-bring), since the answer of its entry is right (entry-right). This is why asking again tells no rule.
 use mathlib.Core.Path.{_≡_, refl, sym, ap, subst, _∙_}
-use mathlib.Core.Bool.{Bool, true, false}
-use mathlib.Core.List.{List, [], _∷_, _++_}
+use mathlib.Core.Bool.{true, false}
+use mathlib.Core.List.{List, [], _∷_}
 use mathlib.Core.Logic.{_⊎_, inl, inr}
-use mathlib.Core.Option.{Option, some, none}
-use Prim.Native.Nat.{ℕ, zero, suc, _+_, _<_, _≤_}
+use mathlib.Core.Option.{some}
+use Prim.Native.Nat.{ℕ, zero, suc, _<_}
 use native.Mathlib.Omega.{arith}
 use Rattle.std.proofs.shelf.Tests.{both-ways}
 use Rattle.engine.specs.declared.key.Key.{Key}
-use Rattle.base.specs.Base.{pick, same}
-use Rattle.engine.specs.Engine.{Ans, Then, ask, done, Rules, Inputs, worth, Got, Entry, Kept, Brought, Bring, brought, bring, find, store, check, Checked, work, renew}
-use Rattle.engine.specs.Theorems.{Falls, Asked, ends, asks, In-gots, first, later, Honest, value, Settled, given, stands}
-use Rattle.engine.proofs.Basics.{pick-true, pick-false, same-yes, key-cases, find-here, find-apart}
+use Rattle.base.specs.Base.{pick}
+use Rattle.engine.specs.Engine.{Rules, Inputs, Got, Entry, Kept, Bring, brought, bring, find, store, check, Checked, work, renew}
+use Rattle.engine.specs.Theorems.{Falls, Asked, In-gots, first, later, value, Settled, given, stands}
+use Rattle.engine.proofs.Basics.{pick-true, pick-false, same-yes, key-cases, find-apart}
 use Rattle.engine.proofs.Worth.{asked-lower, value-asked}
 
 -- entries are honest: as Honest, of the entries alone

@@ -1,19 +1,19 @@
 -- A step is a way from some entries to others in one bringing: which keys were worked out, why, and what stays as it was. Steps join
 -- (step-join), and storing an entry whose answers are right is one (stored). The count of tellings goes along (tally).
 use mathlib.Core.Path.{_≡_, refl, sym, ap, subst, _∙_}
-use mathlib.Core.Bool.{Bool, true, false}
+use mathlib.Core.Bool.{false}
 use mathlib.Core.List.{List, [], _∷_, _++_, append-nil, append-assoc}
 use mathlib.Core.Logic.{_⊎_, inl, inr}
-use mathlib.Core.Option.{Option, some, none}
-use Prim.Native.Nat.{ℕ, zero, suc, _+_, _<_, _≤_}
+use mathlib.Core.Option.{some, none}
+use Prim.Native.Nat.{ℕ, suc, _+_, _<_, _≤_}
 use native.Mathlib.Omega.{arith}
 use lib.ListN.{length}
 use Rattle.std.proofs.shelf.Tests.{both-ways}
 use Rattle.engine.specs.declared.key.Key.{Key}
-use Rattle.engine.specs.Engine.{Ans, Then, ask, done, Rules, Inputs, Got, Entry, find, store}
-use Rattle.engine.specs.Theorems.{Falls, Asked, ends, asks, Among, here, there, No-twice, blank, another, In-gots, first, later, value, Settled, given, stands, tally, told-of}
+use Rattle.engine.specs.Engine.{Rules, Inputs, Got, Entry, find, store}
+use Rattle.engine.specs.Theorems.{Falls, Asked, Among, here, there, No-twice, blank, another, In-gots, value, Settled, given, stands, tally, told-of}
 use Rattle.engine.proofs.Basics.{key-cases, find-here, find-apart, among-cases, among-left, among-right, among-one, no-twice-join}
-use Rattle.engine.proofs.Worth.{asked-lower, value-asked}
+use Rattle.engine.proofs.Worth.{asked-lower}
 use Rattle.engine.proofs.Settled.{Fair, Right, All-settled, settled-lower, settled-store}
 
 -- the tally of two lists, and of one list by entries that are the same for its keys

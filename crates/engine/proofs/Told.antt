@@ -1,17 +1,15 @@
 -- How often rules are told in one bringing: at most as often as the entries that it leaves have words (told-bounded), since no key is
 -- worked out twice and each has an entry then.
-use mathlib.Core.Path.{_≡_, refl, sym, ap, subst, _∙_}
-use mathlib.Core.Bool.{Bool, true, false}
-use mathlib.Core.List.{List, [], _∷_, _++_}
+use mathlib.Core.Path.{_≡_, refl, sym, ap, subst}
+use mathlib.Core.List.{List, [], _∷_}
 use mathlib.Core.Logic.{_⊎_, inl, inr}
-use mathlib.Core.Option.{Option, some, none}
-use Prim.Native.Nat.{ℕ, zero, suc, _+_, _<_, _≤_}
+use mathlib.Core.Option.{some}
+use Prim.Native.Nat.{ℕ, suc, _+_, _<_, _≤_}
 use native.Mathlib.Omega.{arith}
 use lib.ListN.{length}
 use Rattle.engine.specs.declared.key.Key.{Key}
-use Rattle.base.specs.Base.{pick}
-use Rattle.engine.specs.Engine.{Ans, Rules, Inputs, Got, Entry, Kept, bring, find, same-key}
-use Rattle.engine.specs.Theorems.{Falls, Honest, Among, here, there, No-twice, blank, another, told-of, tally}
+use Rattle.engine.specs.Engine.{Rules, Inputs, Got, Entry, Kept, bring, find}
+use Rattle.engine.specs.Theorems.{Falls, Honest, Among, here, there, No-twice, another, told-of, tally}
 use Rattle.engine.specs.Says.{signs-gots, signs-entries}
 use Rattle.engine.proofs.Basics.{pick-true, pick-false, key-cases, key-yes, key-no}
 use Rattle.engine.proofs.Brings.{brings, Good}

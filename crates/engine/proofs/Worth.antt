@@ -1,17 +1,17 @@
 -- What a key is worth is the same for any bound on the depth above its rank (worth-above), and an honest entry whose answers are right
 -- holds the right answer (value-asked).
-use mathlib.Core.Path.{_≡_, refl, sym, ap, subst, _∙_}
-use mathlib.Core.Bool.{Bool, true, false}
+use mathlib.Core.Path.{_≡_, refl, ap, _∙_}
+use mathlib.Core.Bool.{false}
 use mathlib.Core.List.{List, [], _∷_, _++_}
 use Prim.Native.Nat.{ℕ, zero, suc, _+_, _<_, _≤_}
 use native.Mathlib.Omega.{arith}
 use lib.ListN.{length, length-append}
-use lib.Dec.{T, leb, leb→le}
+use lib.Dec.{leb→le}
 use Rattle.engine.specs.declared.key.Key.{Key}
 use Rattle.base.specs.Base.{pick}
-use Rattle.engine.specs.Engine.{Ans, Then, ask, done, Rules, Inputs, on-then, follow, worth, Got, answers}
+use Rattle.engine.specs.Engine.{Ans, Then, ask, done, Rules, Inputs, follow, worth, Got, answers}
 use Rattle.engine.specs.Theorems.{Falls, Asked, ends, asks, In-gots, first, later, value}
-use Rattle.engine.proofs.Basics.{pick-true, pick-false}
+use Rattle.engine.proofs.Basics.{pick-false}
 
 -- what a rule got so far goes with any end: an entry in the making
 abbrev pub Partial : Rules → Key → List Got → Type 0

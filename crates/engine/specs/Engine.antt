@@ -3,14 +3,13 @@
 --
 -- Where a definition calls itself it takes a number (n, m) that bounds the depth: more than a key's rank, or more than what a rule
 -- asks at most. Below that bound what comes out is of no account.
-use mathlib.Core.Bool.{Bool, true, false, _&&_, _||_, not}
+use mathlib.Core.Bool.{Bool, true, false, _&&_}
 use mathlib.Core.List.{List, [], _∷_, _++_}
 use mathlib.Core.Option.{Option, some, none}
 use Prim.Native.Nat.{ℕ, zero, suc, _+_}
-use lib.ListN.{length}
-use lib.Dec.{eqb, leb}
+use lib.Dec.{eqb}
 use Rattle.engine.specs.declared.key.Key.{Key}
-use Rattle.base.specs.Base.{pick, opt, Word, same}
+use Rattle.base.specs.Base.{pick, same}
 
 -- an answer: any row of numbers
 abbrev pub Ans : Type 0

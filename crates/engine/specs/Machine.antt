@@ -1,13 +1,13 @@
 -- The engine as a machine with a stack of its own, for code that must not call itself: states, one turn, what a state comes to ('mean'),
 -- and how many turns are left ('left'). A turn keeps 'mean' (proofs/Means) and lessens 'left' (proofs/Measure). No promise to a caller
 -- cites this file: what the machine comes to is what 'bring' says (proofs/Loops).
-use mathlib.Core.Bool.{Bool, true, false}
 use mathlib.Core.List.{List, [], _∷_, _++_}
 use mathlib.Core.Option.{Option, some, none}
 use Prim.Native.Nat.{ℕ, zero, suc, _+_, _-_, _<_, _≤_}
 use lib.ListN.{length}
 use Rattle.engine.specs.declared.key.Key.{Key}
 use Rattle.base.specs.Base.{pick, same}
+use Rattle.engine.specs.Says.{signs-gots}
 use Rattle.engine.specs.Engine.{Ans, Then, ask, done, Rules, Inputs, Got, Entry, Kept, Brought, Bring, brought, bring, find, check, Checked, answers, went, finish, work}
 
 -- what waits for an answer
@@ -153,3 +153,17 @@ abbrev pub pending : State → ℕ
 pending (call m k st) = pending-in st
 pending (back m a st) = pending-in st
 pending (tell m k gs st) = length gs + pending-in st
+
+-- how many words a frame takes at most, a stack, and a state with its stack: what an entry takes, for a rule that is being told
+abbrev pub frame-signs : Frame → ℕ
+frame-signs (looks k e g gs) = 16
+frame-signs (works k gs q) = 16 + signs-gots gs
+
+abbrev pub stack-signs : List Frame → ℕ
+stack-signs [] = 0
+stack-signs (fr ∷ st) = frame-signs fr + stack-signs st
+
+abbrev pub state-signs : State → ℕ
+state-signs (call m k st) = stack-signs st
+state-signs (back m a st) = stack-signs st
+state-signs (tell m k gs st) = (16 + signs-gots gs) + stack-signs st

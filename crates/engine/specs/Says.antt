@@ -3,8 +3,8 @@
 use mathlib.Core.Path.{_≡_}
 use mathlib.Core.Logic.{_⊎_}
 use mathlib.Core.List.{List, [], _∷_, _++_}
-use Prim.Native.Nat.{ℕ, zero, suc, _+_, _*_, _<_}
-use lib.ListN.{length, take, drop}
+use Prim.Native.Nat.{ℕ, suc, _+_, _*_, _<_}
+use lib.ListN.{length, take}
 use Rattle.std.specs.declared.option.Option.{Option as Perhaps}
 use Rattle.std.specs.declared.option.Option.the-variants.{Some, None}
 use Rattle.engine.specs.declared.key.Key.{Key}

@@ -4,12 +4,12 @@ use mathlib.Core.Logic.{_⊎_}
 use mathlib.Core.Bool.{true, false}
 use mathlib.Core.List.{List, [], _∷_, _++_}
 use mathlib.Core.Option.{Option, some, none}
-use Prim.Native.Nat.{ℕ, zero, suc, _+_, _≤_}
+use Prim.Native.Nat.{ℕ, suc, _+_, _≤_}
 use lib.ListN.{length}
 use lib.Dec.{T, leb}
 use Rattle.engine.specs.declared.key.Key.{Key}
 use Rattle.engine.specs.Says.{signs-entries}
-use Rattle.engine.specs.Engine.{Ans, Then, ask, done, Rules, Inputs, worth, Got, Entry, Kept, Brought, brought, bring, find}
+use Rattle.engine.specs.Engine.{Ans, Then, ask, done, Rules, Inputs, worth, Got, Entry, Kept, brought, bring, find}
 
 -- Rules whose questions go down and end: what is asked has a smaller rank, and no more is asked than 'most' says
 pub record Falls (r : Rules) : Type 0 where

@@ -2,7 +2,7 @@
 -- (append-fits, append-says, append-keeps).
 use mathlib.Core.Path.{_≡_, refl, sym, ap, subst, _∙_}
 use mathlib.Core.Bool.{true, false}
-use mathlib.Core.List.{List, [], _∷_, _++_, append-assoc}
+use mathlib.Core.List.{List, [], _++_}
 use Prim.Native.Nat.{ℕ, zero, suc, _+_, _-_, _*_, _≤_, _<_}
 use native.Mathlib.Omega.{arith}
 use lib.ListN.{length, getD, take, drop, set, length-set, length-drop, length-append}
@@ -11,14 +11,14 @@ use Rattle.std.proofs.shelf.Lists.{drop-drop, drop-at, drop-take, drop-set-lt, 
 use native.Mathlib.Numerals.{add-one}
 use Rattle.engine.specs.declared.key.Key.{Key}
 use Rattle.memo.specs.declared.mark.Mark.{Mark}
-use Rattle.engine.specs.Engine.{Ans, Got, Entry, store}
-use Rattle.memo.specs.Record.{records, size, older, entry-of, deep, puts, packed, made, gots-of, row-long, entry-long}
-use Rattle.memo.specs.Log.{folded, entry-at, entries-at, heads, bucket, One, Logged, log, Fits, Record, Marked, Reaches, here, back, kept-entries, pointed, spare}
+use Rattle.engine.specs.Engine.{store}
+use Rattle.memo.specs.Record.{records, size, older, entry-of, deep, puts, packed, made, gots-of, row-long}
+use Rattle.memo.specs.Log.{folded, entry-at, entries-at, heads, bucket, Logged, log, Fits, Record, Marked, Reaches, back, kept-entries, pointed, spare}
 use Rattle.memo.specs.Says.{Keeps, Looks, At-got, StoreSays}
-use Rattle.memo.proofs.Chains.{Suffix, reach-suffix, heads-long, bucket-lt}
+use Rattle.memo.proofs.Chains.{reach-suffix, bucket-lt}
 use Rattle.memo.proofs.Places.{deep-long, head-at}
 use Rattle.memo.proofs.Puts.{length-puts, take-puts, drop-puts}
-use Rattle.memo.proofs.Packs.{packed-long, size-is, older-is, entry-is, one-is, entry-sum}
+use Rattle.memo.proofs.Packs.{packed-long, older-is, entry-is, one-is, entry-sum}
 
 module _ (ws : List ℕ) (b h d n : ℕ) where
   pub pointed-long : length (pointed ws b h d n) ≡ length ws

@@ -1,21 +1,21 @@
 -- The index over a log: the head of a bucket leads to the newest record of a key (head-finds), and each record on to the next
 -- (next-finds).
 use mathlib.Core.Path.{_≡_, refl, sym, ap, subst, _∙_}
-use mathlib.Core.Bool.{Bool, true, false, _&&_}
-use mathlib.Core.List.{List, [], _∷_, _++_}
-use mathlib.Core.Logic.{_⊎_, inl, inr, ⊎-elim}
-use mathlib.Core.Option.{Option, some, none}
-use Prim.Native.Nat.{ℕ, zero, suc, _+_, _-_, _*_, _%_, _≤_, _<_}
+use mathlib.Core.Bool.{Bool, true, false}
+use mathlib.Core.List.{List, _∷_}
+use mathlib.Core.Logic.{_⊎_, inl, inr}
+use mathlib.Core.Option.{some, none}
+use Prim.Native.Nat.{ℕ, zero, suc, _+_, _-_, _≤_, _<_}
 use native.Mathlib.Nat.{mod-lt}
 use native.Mathlib.Omega.{arith}
-use lib.ListN.{length, getD, take, drop, set, replicate, length-set, length-drop, length-replicate, getD-replicate}
-use Rattle.std.proofs.shelf.Lists.{drop-drop, getD-set-same, getD-set-other, getD-drop}
-use Rattle.std.proofs.shelf.Tests.{cases-eq, cases-bool}
+use lib.ListN.{length, getD, drop, set, length-set, length-drop, length-replicate, getD-replicate}
+use Rattle.std.proofs.shelf.Lists.{drop-drop, getD-set-same, getD-set-other}
+use Rattle.std.proofs.shelf.Tests.{cases-eq}
 use Rattle.engine.specs.declared.key.Key.{Key}
 use Rattle.base.specs.Base.{pick}
-use Rattle.engine.specs.Engine.{Entry, same-key, find, store}
-use Rattle.memo.specs.Record.{key-of, size, entry-of, older, records, deep}
-use Rattle.memo.specs.Log.{folded, bucket, heads, One, Logged, log, Fits, kept-entries, Reaches, here, back}
+use Rattle.engine.specs.Engine.{Entry, same-key, find}
+use Rattle.memo.specs.Record.{key-of, size, entry-of, older, records}
+use Rattle.memo.specs.Log.{bucket, heads, One, Logged, Reaches, here, back}
 use Rattle.memo.proofs.Folds.{key-eq}
 
 pub bucket-lt : (k : Key) (b : ℕ) → 1 ≤ b → bucket k b < b

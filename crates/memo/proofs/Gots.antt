@@ -1,16 +1,16 @@
 -- Reading what a record asked, one question after the other (got-says).
 use mathlib.Core.Path.{_≡_, refl, sym, ap, subst, _∙_}
-use mathlib.Core.List.{List, [], _∷_, _++_}
+use mathlib.Core.List.{List, _∷_}
 use Prim.Native.Nat.{ℕ, zero, suc, _+_, _-_, _*_, _≤_, _<_}
 use native.Mathlib.Omega.{arith}
-use lib.ListN.{length, getD, take, drop, length-drop}
+use lib.ListN.{length, getD, take, drop}
 use Rattle.std.proofs.shelf.Lists.{drop-drop, getD-drop}
 use Rattle.engine.specs.declared.key.Key.{Key}
-use Rattle.engine.specs.Engine.{Ans, Got, Entry}
+use Rattle.engine.specs.Engine.{Got}
 use Rattle.memo.specs.Record.{key-of, gots-of, row-long, size, keys-in, row-in, entry-of, deep}
-use Rattle.memo.specs.Log.{entry-at, One, Fits, Record}
+use Rattle.memo.specs.Log.{entry-at, Fits, Record}
 use Rattle.memo.specs.Says.{At-got, Looks, GotSays}
-use Rattle.memo.proofs.Places.{Stands, stands}
+use Rattle.memo.proofs.Places.{stands}
 
 pub gots-count : (c : ℕ) (ks row : List ℕ) → length (gots-of c ks row) ≡ c
 gots-count zero ks row = refl

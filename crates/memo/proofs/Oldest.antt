@@ -1,22 +1,20 @@
 -- The chain of a bucket from any record on, to its oldest: for finding out whether a record has an older one of its key.
-use mathlib.Core.Path.{_≡_, refl, sym, ap, subst, _∙_}
-use mathlib.Core.Bool.{Bool, true, false, not}
-use mathlib.Core.List.{List, [], _∷_, _++_}
-use mathlib.Core.Logic.{_⊎_, inl, inr}
-use mathlib.Core.Option.{Option, some, none}
-use Prim.Native.Nat.{ℕ, zero, suc, _+_, _-_, _*_, _≤_, _<_}
+use mathlib.Core.Path.{_≡_, sym, ap, subst, _∙_}
+use mathlib.Core.Bool.{true, false}
+use mathlib.Core.List.{List}
+use mathlib.Core.Logic.{inl, inr}
+use mathlib.Core.Option.{some, none}
+use Prim.Native.Nat.{ℕ, suc, _<_}
 use native.Mathlib.Omega.{arith}
-use lib.ListN.{length, getD, take, drop}
+use lib.ListN.{length, getD}
 use Rattle.std.proofs.shelf.Tests.{both-ways}
 use Rattle.engine.specs.declared.key.Key.{Key}
-use Rattle.base.specs.Base.{pick, is-some}
-use Rattle.engine.specs.Engine.{Entry, same-key, find}
-use Rattle.memo.specs.Record.{key-of, size, entry-of, older, records, deep}
-use Rattle.memo.specs.Log.{bucket, heads, One, Logged, log, Fits, Record, Reaches, here, back}
-use Rattle.memo.specs.Says.{OldestSays}
+use Rattle.engine.specs.Engine.{same-key, find}
+use Rattle.memo.specs.Record.{key-of, entry-of, older, records, deep}
+use Rattle.memo.specs.Log.{Logged, log, Fits, Record, Reaches, here, back}
 use Rattle.memo.proofs.Folds.{key-refl}
-use Rattle.memo.proofs.Chains.{Suffix, reach-suffix, reach-logged, reach-on, There, Found, head-finds, next-finds, prev-low, key-in}
-use Rattle.memo.proofs.Places.{in-row, is-deep, Stands, stands, first-some}
+use Rattle.memo.proofs.Chains.{reach-logged, reach-on, There, Found, head-finds, next-finds, prev-low}
+use Rattle.memo.proofs.Places.{in-row, is-deep, first-some}
 
 -- the records older than one that stands
 module _ (ws : List ℕ) (f : Fits ws) (d : ℕ) (x : Record ws d) where

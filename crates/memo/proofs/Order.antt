@@ -1,16 +1,15 @@
 -- The order of entries: a key's place is that of its oldest record, and what stands there is its newest. Repacking has to keep it.
 use mathlib.Core.Path.{_≡_, refl, sym, ap, subst, _∙_}
-use mathlib.Core.Bool.{Bool, true, false, _&&_}
-use mathlib.Core.List.{List, [], _∷_, _++_, append-assoc}
+use mathlib.Core.Bool.{Bool, true, false}
+use mathlib.Core.List.{List, [], _∷_, _++_}
 use mathlib.Core.Option.{Option, some, none}
-use Prim.Native.Nat.{ℕ, zero, suc, _+_, _-_, _≤_, _<_}
+use Prim.Native.Nat.{ℕ, _+_, _≤_}
 use native.Mathlib.Omega.{arith}
-use lib.ListN.{length}
 use Rattle.std.proofs.shelf.Lists.{append-nil}
-use Rattle.std.proofs.shelf.Tests.{both-ways, cases-bool}
+use Rattle.std.proofs.shelf.Tests.{both-ways}
 use Rattle.engine.specs.declared.key.Key.{Key}
 use Rattle.base.specs.Base.{pick, opt, is-some}
-use Rattle.engine.specs.Engine.{Entry, Got, same-key, find, store}
+use Rattle.engine.specs.Engine.{Entry, same-key, find, store}
 use Rattle.memo.specs.Record.{entry-long, entries-long}
 use Rattle.memo.specs.Log.{folded}
 use Rattle.memo.specs.Says.{Apart}

@@ -1,12 +1,11 @@
 -- A record, read where it was put: its size, its entry, and that it is in order.
-use mathlib.Core.Path.{_≡_, refl, sym, ap, subst, _∙_}
-use mathlib.Core.List.{List, [], _∷_, _++_, append-assoc}
-use Prim.Native.Nat.{ℕ, zero, suc, _+_, _-_, _*_, _≤_, _<_}
+use mathlib.Core.Path.{_≡_, refl, sym, ap, _∙_}
+use mathlib.Core.List.{List, _∷_, _++_, append-assoc}
+use Prim.Native.Nat.{ℕ, zero, suc, _+_, _*_, _≤_}
 use native.Mathlib.Omega.{arith}
-use lib.ListN.{length, getD, take, drop, set, length-drop, length-take, length-append}
+use lib.ListN.{length, getD, take, drop, length-drop, length-append}
 use Rattle.std.proofs.shelf.Lists.{drop-drop, take-at, drop-at, take-append-le, drop-append-le, length-take-le, getD-append-left}
 use Rattle.engine.specs.declared.key.Key.{Key}
-use Rattle.engine.specs.Engine.{Ans, Got, Entry}
 use Rattle.memo.specs.Record.{key-of, gots-of, row-long, size, keys-in, row-in, entry-of, older, packed, made, gots-long, entry-long}
 use Rattle.memo.specs.Log.{heads, bucket, One}
 

@@ -1,21 +1,21 @@
 -- Places in the row: depths, records that stand at them, and the search of a key along its chain.
-use mathlib.Core.Path.{_≡_, refl, sym, ap, subst, _∙_}
-use mathlib.Core.Bool.{Bool, true, false, _&&_}
-use mathlib.Core.List.{List, [], _∷_, _++_}
-use mathlib.Core.Logic.{_⊎_, inl, inr, ⊎-elim}
-use mathlib.Core.Option.{Option, some, none}
-use Prim.Native.Nat.{ℕ, zero, suc, _+_, _-_, _*_, _≤_, _<_}
+use mathlib.Core.Path.{_≡_, sym, ap, subst, _∙_}
+use mathlib.Core.Bool.{true, false}
+use mathlib.Core.List.{List}
+use mathlib.Core.Logic.{inl, inr}
+use mathlib.Core.Option.{some, none}
+use Prim.Native.Nat.{ℕ, suc, _+_, _-_, _≤_, _<_}
 use native.Mathlib.Omega.{arith}
-use lib.ListN.{length, getD, take, drop, set, length-set, length-drop}
+use lib.ListN.{length, getD, take, drop, length-drop}
 use Rattle.std.proofs.shelf.Lists.{drop-drop, getD-drop, getD-take}
 use Rattle.engine.specs.declared.key.Key.{Key}
 use Rattle.base.specs.Base.{pick}
-use Rattle.engine.specs.Engine.{Entry, same-key, find, store}
+use Rattle.engine.specs.Engine.{same-key, find}
 use Rattle.memo.specs.Record.{key-of, size, entry-of, older, records, deep}
-use Rattle.memo.specs.Log.{folded, entry-at, bucket, heads, One, Logged, log, Fits, Record, kept-entries, Reaches, here, back}
-use Rattle.memo.proofs.Folds.{key-eq, key-refl, find-folded}
+use Rattle.memo.specs.Log.{entry-at, bucket, heads, One, log, Fits, Record, kept-entries, Reaches}
+use Rattle.memo.proofs.Folds.{key-refl, find-folded}
 use Rattle.std.proofs.shelf.Tests.{both-ways}
-use Rattle.memo.proofs.Chains.{Suffix, suffix-drop, suffix-self, reach-suffix, reach-logged, There, Found, head-finds, next-finds, prev-low, key-in, bucket-lt, heads-long}
+use Rattle.memo.proofs.Chains.{Suffix, suffix-drop, reach-suffix, reach-logged, There, Found, head-finds, next-finds, prev-low, key-in, bucket-lt}
 
 pub deep-word : (ws : List ℕ) (d i : ℕ) → getD ws (length ws - d + i) 0 ≡ getD (deep d ws) i 0
 deep-word ws d i = sym (getD-drop (length ws - d) ws i 0)

@@ -1,18 +1,16 @@
 -- A record less (pop-popped), so back to a mark (came-back); and the empty memo (empty).
 use mathlib.Core.Path.{_≡_, refl, sym, ap, subst, _∙_}
-use mathlib.Core.List.{List, [], _∷_, _++_}
-use Prim.Native.Nat.{ℕ, zero, suc, _+_, _-_, _*_, _≤_, _<_}
+use mathlib.Core.List.{List, []}
+use Prim.Native.Nat.{ℕ, suc, _+_, _-_, _≤_, _<_}
 use native.Mathlib.Omega.{arith}
 use lib.ListN.{length, getD, take, drop, set, replicate, length-set, length-drop}
 use Rattle.std.proofs.shelf.Lists.{drop-drop, drop-all, drop-set-lt, getD-set-same, getD-replicate, length-replicate, take-at, set-set, set-getD}
 use Rattle.memo.proofs.Puts.{length-puts, drop-puts}
-use Rattle.engine.specs.declared.key.Key.{Key}
 use Rattle.memo.specs.declared.mark.Mark.{Mark}
-use Rattle.engine.specs.Engine.{Entry, store}
 use Rattle.memo.specs.Record.{records, key-of, size, older, deep, puts}
-use Rattle.memo.specs.Log.{folded, entries-at, heads, bucket, One, Logged, log, Fits, Marked, Reaches, here, back, kept-entries, pointed, spare}
+use Rattle.memo.specs.Log.{folded, entries-at, heads, bucket, Logged, log, Fits, Marked, Reaches, here, back, kept-entries, pointed, spare}
 use Rattle.memo.specs.Says.{Popped}
-use Rattle.memo.proofs.Chains.{Suffix, reach-suffix, heads-long, bucket-lt}
+use Rattle.memo.proofs.Chains.{reach-suffix, bucket-lt}
 use Rattle.memo.proofs.Places.{deep-long}
 use Rattle.memo.proofs.Appends.{pointed-long, pointed-0, pointed-1, pointed-2, pointed-drop, pointed-index, refit, refold, log-is}
 

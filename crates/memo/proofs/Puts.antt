@@ -1,12 +1,10 @@
 -- Words put over others: lengths, and what stands before and behind.
-use mathlib.Core.Path.{_≡_, refl, sym, ap, subst, _∙_}
-use mathlib.Core.List.{List, [], _∷_, _++_, append-assoc}
-use Prim.Native.Nat.{ℕ, zero, suc, _+_, _-_, _*_, _≤_, _<_}
+use mathlib.Core.Path.{_≡_, refl, sym, ap, _∙_}
+use mathlib.Core.List.{List, _++_, append-assoc}
+use Prim.Native.Nat.{ℕ, _+_, _≤_}
 use native.Mathlib.Omega.{arith}
-use borrow.Author.Needs.{needs}
-use lib.ListN.{length, getD, take, drop, set, length-set, length-drop, length-take, length-append}
-use lib.Seq.{take-append-add, drop-append-add, getD-append-add}
-use Rattle.std.proofs.shelf.Lists.{drop-drop, take-at, drop-at, take-take, take-append-le, drop-append-le, length-take-le, drop-take}
+use lib.ListN.{length, take, drop, length-drop, length-append}
+use Rattle.std.proofs.shelf.Lists.{drop-drop, take-at, drop-at, take-take, take-append-le, length-take-le}
 use borrow.Rule.Slice.PartMut.{putMid}
 use Rattle.memo.specs.Record.{puts}
 

@@ -2,27 +2,25 @@
 use mathlib.Core.Path.{_≡_, refl, sym, ap, subst, _∙_}
 use mathlib.Core.Bool.{Bool, true, false, not}
 use mathlib.Core.List.{List, [], _∷_, _++_, append-assoc}
-use mathlib.Core.Option.{Option, some, none}
 use Prim.Native.Nat.{ℕ, zero, suc, _+_, _-_, _*_, _≤_, _<_}
 use native.Mathlib.Omega.{arith}
-use lib.ListN.{length, getD, take, drop, set, replicate, length-take, length-drop, length-append}
+use lib.ListN.{length, getD, take, drop, set, replicate, length-take, length-drop}
 use Rattle.std.proofs.shelf.Lists.{drop-drop, append-nil, length-take-le}
 use native.Mathlib.Numerals.{add-one}
-use Rattle.std.proofs.shelf.Tests.{both-ways, not-true, not-false, true≢false}
 use Rattle.engine.specs.declared.key.Key.{Key}
 use Rattle.memo.specs.declared.mark.Mark.{Mark}
 use Rattle.base.specs.Base.{pick, opt, is-some}
 use Rattle.engine.specs.Engine.{Entry, find, store}
-use Rattle.memo.specs.Record.{key-of, size, entry-of, older, records, row-in, deep, puts, entry-long, entries-long, made, gots-of, row-long}
-use Rattle.memo.specs.Log.{folded, entry-at, One, Logged, log, Fits, Record, Reaches, here, back, kept-entries, pointed, spare, capacity}
+use Rattle.memo.specs.Record.{size, entry-of, older, records, row-in, deep, puts, entry-long, entries-long, made, gots-of, row-long}
+use Rattle.memo.specs.Log.{entry-at, Logged, log, Fits, Record, Reaches, here, back, kept-entries, pointed, spare, capacity}
 use Rattle.memo.specs.Says.{Plain, OldestSays, NewestSays, Gathers, Apart, gathered, Rebuilds, PartsSays, StoreSays}
 use Rattle.memo.proofs.Folds.{find-folded}
 use Rattle.memo.proofs.Chains.{reach-logged, reach-on, key-in}
-use Rattle.memo.proofs.Places.{deep-long, in-row, stands, Stands}
+use Rattle.memo.proofs.Places.{deep-long, stands, Stands}
 use Rattle.memo.proofs.Pops.{empty}
 use Rattle.memo.proofs.Puts.{length-puts, drop-puts}
-use Rattle.memo.proofs.Unpacks.{moved-entry, moved-older, moved-plain, plain-long, plain-few, long-is, keys-long, row-whole, unpacked}
-use Rattle.memo.proofs.Order.{dump, shown, newest, dumped, folded-long, apart-folded, apart-next, store-miss}
+use Rattle.memo.proofs.Unpacks.{moved-entry, moved-older, moved-plain, plain-long, long-is, keys-long, row-whole, unpacked}
+use Rattle.memo.proofs.Order.{dump, newest, dumped, folded-long, apart-folded, apart-next, store-miss}
 
 pub long-++ : (xs ys : List Entry) → entries-long (xs ++ ys) ≡ entries-long xs + entries-long ys
 long-++ [] ys = omega arith

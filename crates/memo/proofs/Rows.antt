@@ -1,14 +1,13 @@
 -- What a caller hands to `append` for a list of questions is that list (gots-are), and the words of entries are within what room is
 -- promised by (signs-enough).
-use mathlib.Core.Path.{_≡_, refl, sym, ap, _∙_}
+use mathlib.Core.Path.{_≡_, refl, ap, _∙_}
 use mathlib.Core.List.{List, [], _∷_, _++_}
 use Prim.Native.Nat.{ℕ, suc, _+_, _*_, _≤_}
 use native.Mathlib.Omega.{arith}
-use lib.ListN.{length, getD, take, drop, length-append}
+use lib.ListN.{length, drop, length-append}
 use Rattle.std.proofs.shelf.Lists.{take-at, drop-at}
-use Rattle.engine.specs.declared.key.Key.{Key}
-use Rattle.engine.specs.Engine.{Ans, Got, Entry, answers}
-use Rattle.memo.specs.Record.{gots-of, row-long, gots-long, entry-long, entries-long}
+use Rattle.engine.specs.Engine.{Got, Entry, answers}
+use Rattle.memo.specs.Record.{gots-of, row-long, gots-long, entries-long}
 use Rattle.engine.specs.Says.{row, signs-gots, signs-entries}
 use Rattle.memo.specs.Rows.{keys}
 

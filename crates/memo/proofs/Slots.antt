@@ -1,13 +1,13 @@
 -- Two records stand seven words apart at least, so the seventh part of a depth tells records apart: marks of records can stand in a row
 -- of their own.
-use mathlib.Core.Path.{_≡_, refl, sym, ap, subst, _∙_}
+use mathlib.Core.Path.{_≡_, refl}
 use mathlib.Core.List.{List}
 use mathlib.Core.Logic.{_⊎_, inl, inr}
-use Prim.Native.Nat.{ℕ, suc, _+_, _*_, _/_, _≤_, _<_}
+use Prim.Native.Nat.{ℕ, suc, _+_, _/_, _≤_}
 use native.Mathlib.Omega.{arith}
 use lib.ListN.{length, getD, length-drop}
 use Rattle.memo.specs.Record.{size, older, deep}
-use Rattle.memo.specs.Log.{Logged, log, Fits, Record, Reaches, here, back}
+use Rattle.memo.specs.Log.{Logged, Fits, Record, Reaches, here, back}
 use Rattle.memo.proofs.Chains.{reach-suffix}
 
 below : (b : ℕ) {n m : ℕ} {ws l : List ℕ} → Logged b (suc n) ws → Reaches n (older ws) m l → length l + 7 ≤ length ws

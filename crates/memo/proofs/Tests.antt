@@ -1,12 +1,10 @@
 -- The test memo-fits says what Fits says, both ways (fits-to, fits-from).
-use mathlib.Core.Path.{_≡_, refl, sym, ap, subst, _∙_}
-use mathlib.Core.Bool.{Bool, true, false, _&&_}
+use mathlib.Core.Path.{_≡_, refl, sym, subst}
+use mathlib.Core.Bool.{true}
 use mathlib.Core.List.{List, [], _∷_}
-use Prim.Native.Nat.{ℕ, zero, suc, _+_}
-use native.Mathlib.Omega.{arith}
-use lib.ListN.{length, getD, take, drop}
-use lib.Dec.{eqb, leb}
-use Rattle.std.proofs.shelf.Tests.{and-parts, and-from, eqb-true, eq-eqb, leb-true, le-leb, true≢false, false≢true}
+use Prim.Native.Nat.{ℕ, zero, suc}
+use lib.ListN.{getD}
+use Rattle.std.proofs.shelf.Tests.{and-parts, and-from, eqb-true, eq-eqb, leb-true, le-leb, false≢true}
 use Rattle.base.specs.Base.{same}
 use Rattle.memo.specs.Record.{older}
 use Rattle.memo.specs.Log.{heads, One, Logged, Fits, log}

@@ -1,16 +1,14 @@
 -- A record's words are what its parts pack to, wherever it is moved: for copying records out and in again.
 use mathlib.Core.Path.{_≡_, refl, sym, ap, subst, _∙_}
-use mathlib.Core.List.{List, [], _∷_, _++_, append-assoc}
-use Prim.Native.Nat.{ℕ, zero, suc, _+_, _-_, _*_, _≤_, _<_}
+use mathlib.Core.List.{List, [], _∷_, _++_}
+use Prim.Native.Nat.{ℕ, zero, suc, _+_, _-_, _*_, _≤_}
 use native.Mathlib.Omega.{arith}
-use lib.ListN.{length, getD, take, drop, length-drop, length-take, length-append, take-append-drop}
+use lib.ListN.{length, getD, take, drop, length-drop, length-append, take-append-drop}
 use lib.Seq.{take-add}
-use Rattle.std.proofs.shelf.Lists.{drop-drop, take-take, getD-take, length-take-le, drop-take, drop-at}
-use Rattle.engine.specs.declared.key.Key.{Key}
-use Rattle.engine.specs.Engine.{Ans, Got, Entry}
-use Rattle.memo.specs.Record.{key-of, gots-of, row-long, size, keys-in, row-in, entry-of, older, records, packed, made, entry-long, entries-long}
+use Rattle.std.proofs.shelf.Lists.{drop-drop, getD-take, length-take-le, drop-take}
+use Rattle.memo.specs.Record.{key-of, gots-of, row-long, size, row-in, entry-of, older, records, packed, made, entry-long, entries-long}
 use Rattle.memo.specs.Says.{Plain}
-use Rattle.memo.proofs.Packs.{row-is, size-is, older-is, entry-is, entry-sum, row-more, packed-long}
+use Rattle.memo.proofs.Packs.{row-is, size-is, older-is, entry-is, entry-sum, row-more}
 
 seven : (l : List ℕ) → 7 ≤ length l → take 7 l ≡ getD l 0 0 ∷ getD l 1 0 ∷ getD l 2 0 ∷ getD l 3 0 ∷ getD l 4 0 ∷ getD l 5 0 ∷ getD l 6 0 ∷ []
 seven [] h = absurd (omega arith)

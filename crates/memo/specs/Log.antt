@@ -12,7 +12,7 @@
 -- 0 is none. To store an entry is to add a record: what the memo holds (kept-entries) is what the records come to, each stored over the
 -- older ones. So a bringing that fails goes back by taking records off.
 use mathlib.Core.Path.{_≡_}
-use mathlib.Core.List.{List, [], _∷_, _++_}
+use mathlib.Core.List.{List, [], _∷_}
 use Prim.Native.Nat.{ℕ, zero, suc, _+_, _-_, _*_, _%_, _≤_}
 use lib.ListN.{length, getD, take, drop, set, replicate}
 use Rattle.engine.specs.declared.key.Key.{Key}

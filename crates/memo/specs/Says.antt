@@ -2,13 +2,13 @@
 use mathlib.Core.Path.{_≡_}
 use mathlib.Core.Bool.{Bool, true, false, not}
 use mathlib.Core.List.{List, [], _∷_}
-use mathlib.Core.Option.{Option, some, none}
+use mathlib.Core.Option.{none}
 use Prim.Native.Nat.{ℕ, zero, suc, _+_, _-_, _*_, _/_, _≤_, _<_}
 use lib.ListN.{length, getD, take, drop}
 use Rattle.base.specs.Base.{is-some, opt}
 use Rattle.engine.specs.declared.key.Key.{Key}
 use Rattle.memo.specs.declared.mark.Mark.{Mark}
-use Rattle.engine.specs.Engine.{Ans, Got, Entry, store, find}
+use Rattle.engine.specs.Engine.{Ans, Entry, store, find}
 use Rattle.memo.specs.Record.{key-of, gots-of, row-long, size, keys-in, row-in, older, records, deep, entry-long, entries-long}
 use Rattle.memo.specs.Log.{log, Fits, kept-entries, Record, entry-at, Marked, entries-at, spare, capacity}
 

@@ -1,5 +1,5 @@
 -- Whether words are a memo, as a test: what Fits says (proofs/Tests).
-use mathlib.Core.Bool.{Bool, true, false, _&&_}
+use mathlib.Core.Bool.{Bool, _&&_}
 use mathlib.Core.List.{List}
 use Prim.Native.Nat.{ℕ, zero, suc, _+_}
 use lib.ListN.{length, getD, take, drop}
