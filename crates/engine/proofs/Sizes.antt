@@ -1,4 +1,5 @@
--- The words of the entries of some keys: no more than those of all entries, if no key stands there twice (sizes-signs).
+-- The words of the entries of some keys: no more than those of all entries, if no key stands there twice (sizes-signs). Tellings
+-- that aren't over are within the words of the stack (pending-signs).
 use mathlib.Core.Path.{_≡_, refl, sym, ap, subst}
 use mathlib.Core.List.{List, [], _∷_, _++_}
 use mathlib.Core.Logic.{_⊎_, inl, inr}
@@ -10,6 +11,7 @@ use Rattle.engine.specs.declared.key.Key.{Key}
 use Rattle.engine.specs.Engine.{Got, Entry, find}
 use Rattle.engine.specs.Says.{signs-gots, signs-entries}
 use Rattle.engine.specs.Theorems.{Among, here, there, No-twice, another}
+use Rattle.engine.specs.Machine.{Frame, looks, works, State, call, back, tell, pending-in, pending, stack-signs, state-signs}
 use Rattle.engine.proofs.Basics.{pick-true, pick-false, key-cases, key-yes, key-no}
 
 -- the words of the entries of keys
@@ -49,3 +51,18 @@ sizes-signs (e ∷ es) js t = let a = sizes-cons e es js t in let b = sizes-sign
 pub signs-more : (gs hs : List Got) → signs-gots (gs ++ hs) ≡ signs-gots gs + signs-gots hs
 signs-more [] hs = omega arith
 signs-more (g ∷ gs) hs = let h = signs-more gs hs in omega arith
+
+-- the tellings of rules that aren't done are within the words of the state
+pub signs-length : (gs : List Got) → length gs ≤ signs-gots gs
+signs-length [] = omega arith
+signs-length (g ∷ gs) = let h = signs-length gs in omega arith
+
+pending-stack : (st : List Frame) → pending-in st ≤ stack-signs st
+pending-stack [] = omega arith
+pending-stack (looks k e g gs ∷ st) = let h = pending-stack st in omega arith
+pending-stack (works k gs q ∷ st) = let h = pending-stack st in let a = signs-length gs in omega arith
+
+pub pending-signs : (c : State) → pending c ≤ state-signs c
+pending-signs (call m k st) = pending-stack st
+pending-signs (back m a st) = pending-stack st
+pending-signs (tell m k gs st) = let h = pending-stack st in let a = signs-length gs in omega arith
