@@ -1,0 +1,15 @@
+pub mod Lists
+pub mod Gather
+pub mod Sits
+pub mod Stands
+pub mod Blame
+pub mod Runs
+pub mod Partial
+pub mod Sizes
+pub mod Whole
+pub mod Programs
+pub mod Pieces
+pub mod Bytes
+pub mod Room
+pub mod Once
+pub mod Cases
