@@ -2,3 +2,6 @@
 pub mod lookup;
 pub mod rows;
 pub mod said;
+pub mod types;
+pub mod verdict;
+pub mod turns;
