@@ -1,3 +1,5 @@
 pub mod Words
 pub mod States
 pub mod Slots
+pub mod Asks
+pub mod Loop
