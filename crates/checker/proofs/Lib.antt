@@ -3,3 +3,4 @@ pub mod States
 pub mod Slots
 pub mod Asks
 pub mod Loop
+pub mod Whole

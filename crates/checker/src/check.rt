@@ -7,7 +7,7 @@ ghost use lib.ListN.{length, take};
 ghost use Rattle.parser.specs.Rows.{«op-is»};
 ghost use Rattle.checker.specs.Rows.{Book, «code-end»};
 ghost use Rattle.checker.specs.Turns.{Ready, TurnSays};
-ghost use Rattle.checker.specs.Whole.{WentSays};
+ghost use Rattle.checker.specs.Whole.{WentSays, «told-of», Few, LineSays};
 use crate::calls::call;
 use crate::calls::field;
 use crate::calls::name;
@@ -36,7 +36,7 @@ use parser::code::op_at;
 
 // How far it went: to the end, and so much was said; or up to what has to be known first.
 #[derive(Clone, Copy)]
-pub enum Went {
+enum Went {
     Ends(Place),
     Needs(Want),
 }
@@ -68,12 +68,13 @@ fn turn<L: Lookup>(look: &L, words: &mut [u32], b: Bounds, p: Place, op: Op) -> 
     }
 }
 
-// What is said comes to stand behind the code; what stands before that, and the code, stay as they were.
-pub fn check<L: Lookup>(look: &L, words: &mut [u32], b: Bounds) -> Went
+// The walk over all operations.
+fn walk<L: Lookup>(look: &L, words: &mut [u32], b: Bounds) -> Went
     requires line { ⌜ b .len ≤ b .base ⌝ }
     requires room { ⌜ b .base + 25 * b .count ≤ length (now words) ⌝ }
     ensures kept { λ _. ⌜ take («code-end» b) (now (words .exit)) ≡ take («code-end» b) (now (words .entry)) ⌝ }
-    ensures says { λ r. ⌜ WentSays (book (now (look .entry))) b (now (words .entry)) (now (words .exit)) r ⌝ }
+    ensures walks { λ r. ⌜ WentSays (book (now (look .entry))) b (now (words .entry)) (now (words .exit)) r ⌝ }
+    ensures says { λ r. ⌜ LineSays (book (now (look .entry))) b (now (words .entry)) (now (words .exit)) («told-of» r) ⌝ }
 {
     let mut p = Place { height: 0, names: 0, events: 0 };
     for i in 0..b.count {
@@ -88,4 +89,19 @@ pub fn check<L: Lookup>(look: &L, words: &mut [u32], b: Bounds) -> Went
         }
     }
     Went::Ends(p)
+}
+
+// Checks a line that lies in the words with its code. What is said comes to stand behind the code, so many things as are given back;
+// what lies before that, and the code, stay as they were. Or it gives back what has to be known first.
+pub fn check<L: Lookup>(look: &L, words: &mut [u32], b: Bounds) -> Result<usize, Want>
+    requires line { ⌜ b .len ≤ b .base ⌝ }
+    requires room { ⌜ b .base + 25 * b .count ≤ length (now words) ⌝ }
+    ensures kept { λ _. ⌜ take («code-end» b) (now (words .exit)) ≡ take («code-end» b) (now (words .entry)) ⌝ }
+    ensures few { λ r. ⌜ Few b r ⌝ }
+    ensures says { λ r. ⌜ LineSays (book (now (look .entry))) b (now (words .entry)) (now (words .exit)) r ⌝ }
+{
+    match walk(look, words, b) {
+        Went::Ends(p) => Ok(p.events),
+        Went::Needs(want) => Err(want),
+    }
 }
