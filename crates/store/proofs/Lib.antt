@@ -1,0 +1,11 @@
+-- A text and its lines: Joined. The index: Chains, Words, Still. Lines by number: Numbering. Lists of files: Puts. Files in the words: Records,
+-- Tables, Weights.
+pub mod Joined
+pub mod Puts
+pub mod Chains
+pub mod Words
+pub mod Still
+pub mod Numbering
+pub mod Records
+pub mod Tables
+pub mod Weights

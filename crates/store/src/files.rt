@@ -1,0 +1,88 @@
+// The table of files, and their records in the pool: the layout stands in specs/Files.
+ghost use Prim.Native.Nat.{_+_, _<_, _≤_};
+ghost use Rattle.store.specs.Files.{AppendSays, Fits, IndexSays, NoMore, PushSays, ReplaceSays};
+ghost use Rattle.store.specs.Index.{Live, Sound};
+ghost use Rattle.store.specs.Lines.{Every};
+ghost use denote.Ref.{now};
+ghost use lib.ListN.{getD, length, set};
+ghost use mathlib.Core.Path.{_≡_};
+use crate::row::lay;
+use crate::row::mark;
+
+// Which file's name has this number.
+pub fn file_index(files: &[u32], words: &[u32], buckets: usize, cap: usize, f: u32) -> Option<usize>
+    requires { ⌜ Fits buckets cap (now files) (now words) ⌝ }
+    ensures { λ r. ⌜ IndexSays (now (files .entry)) (now (words .entry)) f r ⌝ }
+{
+    let n = files[0] as usize;
+    let mut k = 0;
+    while k < n {
+        if words[files[1 + k] as usize] == f {
+            return Some(k);
+        }
+        k += 1;
+    }
+    None
+}
+
+// Other lines for a file; or all is as it was, for want of room.
+pub fn replace_file(
+    files: &mut [u32],
+    words: &mut [u32],
+    buckets: usize,
+    cap: usize,
+    k: usize,
+    f: u32,
+    ns: &[u32],
+) -> bool
+    requires { ⌜ Fits buckets cap (now files) (now words) ⌝ ∗ ⌜ k < getD (now files) 0 0 ⌝ ∗ ⌜ Live buckets (now words) f ⌝ ∗ ⌜ Every (Live buckets (now words)) (now ns) ⌝ }
+    ensures filed { λ _. ⌜ Fits buckets cap (now (files .exit)) (now (words .exit)) ⌝ }
+    ensures says { λ r. ⌜ ReplaceSays buckets (now (files .entry)) (now (words .entry)) k f (now (ns .entry)) (now (files .exit)) (now (words .exit)) r ⌝ }
+{
+    let Some(p) = append(words, buckets, cap, f, ns) else {
+        return false;
+    };
+    files[1 + k] = p;
+    true
+}
+
+// One more file, behind the others; or all is as it was, for want of room.
+pub fn push_file(
+    files: &mut [u32],
+    words: &mut [u32],
+    buckets: usize,
+    cap: usize,
+    f: u32,
+    ns: &[u32],
+) -> bool
+    requires { ⌜ Fits buckets cap (now files) (now words) ⌝ ∗ ⌜ Live buckets (now words) f ⌝ ∗ ⌜ Every (Live buckets (now words)) (now ns) ⌝ }
+    ensures filed { λ _. ⌜ Fits buckets cap (now (files .exit)) (now (words .exit)) ⌝ }
+    ensures more { λ _. ⌜ NoMore buckets (now (words .entry)) (now (words .exit)) ⌝ }
+    ensures says { λ r. ⌜ PushSays buckets (now (files .entry)) (now (words .entry)) f (now (ns .entry)) (now (files .exit)) (now (words .exit)) r ⌝ }
+{
+    let n = files[0];
+    if files.len() <= n as usize + 1 || n == u32::MAX {
+        return false;
+    }
+    let Some(p) = append(words, buckets, cap, f, ns) else {
+        return false;
+    };
+    files[1 + n as usize] = p;
+    files[0] = n + 1;
+    true
+}
+
+// A file's record behind all else in the pool; or none, where there is no room.
+fn append(words: &mut [u32], buckets: usize, cap: usize, name: u32, ns: &[u32]) -> Option<u32>
+    requires { ⌜ Sound buckets cap (now words) ⌝ }
+    ensures { λ r. ⌜ AppendSays buckets cap (now (words .entry)) name (now (ns .entry)) (now (words .exit)) r ⌝ }
+{
+    let from = words[1];
+    if words.len() - (from as usize) < 2 + ns.len() {
+        return None;
+    }
+    let to = from + 2 + ns.len() as u32;
+    lay(words, from as usize + 1, ns);
+    mark(words, from as usize, name, to);
+    Some(from)
+}
