@@ -8,3 +8,4 @@ pub mod turns;
 pub mod calls;
 pub mod lines;
 pub mod check;
+pub mod samples;
