@@ -3,5 +3,6 @@
 mod files;
 pub mod interner;
 pub mod numbers;
+pub mod reclaim;
 mod row;
 pub mod texts;
