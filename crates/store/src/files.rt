@@ -1,12 +1,13 @@
 // The table of files, and their records in the pool: the layout stands in specs/Files.
 ghost use Prim.Native.Nat.{_+_, _<_, _≤_};
 ghost use Rattle.store.specs.Files.{entries, others, AppendSays, FileOfSays, Fits, IndexSays, NoMore, PushSays, ReplaceSays};
-ghost use Rattle.store.specs.Index.{Live, Sound};
+ghost use Rattle.store.specs.Index.{bytes-at, Live, Sound};
 ghost use Rattle.store.specs.Lines.{Every};
 ghost use denote.Ref.{now};
 ghost use lib.ListN.{getD, length, set};
 ghost use mathlib.Core.Path.{_≡_};
 use crate::interner::find;
+use crate::row::bytes_from;
 use crate::row::lay;
 use crate::row::mark;
 
@@ -35,6 +36,20 @@ pub fn file_index(files: &[u32], words: &[u32], buckets: usize, cap: usize, f: u
         k += 1;
     }
     None
+}
+
+// The numbers of the lines of the k-th file.
+pub fn numbers_of<'a>(
+    files: &[u32],
+    words: &'a [u32],
+    buckets: usize,
+    cap: usize,
+    k: usize,
+) -> &'a [u32]
+    requires { ⌜ Fits buckets cap (now files) (now words) ⌝ ∗ ⌜ k < getD (now files) 0 0 ⌝ }
+    ensures { λ r. ⌜ now r ≡ bytes-at (now (words .entry)) (getD (now (files .entry)) (1 + k) 0 + 1) ⌝ }
+{
+    bytes_from(words, files[1 + k] as usize + 1)
 }
 
 // Other lines for a file; or all is as it was, for want of room.
