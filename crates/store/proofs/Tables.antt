@@ -46,13 +46,13 @@ module _ (nb cap : ℕ) (t m : List ℕ) (q : Fits nb cap t m) where
 
   -- names are numbers
   module _ (f : ℕ) (name : List ℕ) (lf : Live nb m f) (is-name : bytes nb m f ≡ name) where
-    other-name : (p : ℕ) → FileOk nb cap m p → (getD m p 0 ≡ f → ⊥) → bytes nb m (getD m p 0) ≡ name → ⊥
+    pub other-name : (p : ℕ) → FileOk nb cap m p → (getD m p 0 ≡ f → ⊥) → bytes nb m (getD m p 0) ≡ name → ⊥
     other-name p k n e = n (q .sound .chained .apart (getD m p 0) f (k .name .0) (k .name .1) (lf .0) (lf .1) (e ∙ sym is-name))
-    first-in : (es : List ℕ) (k : ℕ) → Every (FileOk nb cap m) es → k < length es → getD m (getD es k 0) 0 ≡ f → ((j : ℕ) → j < k → getD m (getD es j 0) 0 ≡ f → ⊥) → First name (map (file-at nb m) es) k
+    pub first-in : (es : List ℕ) (k : ℕ) → Every (FileOk nb cap m) es → k < length es → getD m (getD es k 0) 0 ≡ f → ((j : ℕ) → j < k → getD m (getD es j 0) 0 ≡ f → ⊥) → First name (map (file-at nb m) es) k
     first-in [] k e h i d = let z : ⊥ = omega arith in elim z [ ]
     first-in (p ∷ ps) zero e h i d = ap (bytes nb m) i ∙ is-name
     first-in (p ∷ ps) (suc k) (x, e) h i d = (other-name p x (d 0 (omega arith)), first-in ps k e (omega arith) i (λ j l. d (suc j) (omega arith)))
-    none-in : (es : List ℕ) → Every (FileOk nb cap m) es → ((j : ℕ) → j < length es → getD m (getD es j 0) 0 ≡ f → ⊥) → find-file (map (file-at nb m) es) name ≡ none
+    pub none-in : (es : List ℕ) → Every (FileOk nb cap m) es → ((j : ℕ) → j < length es → getD m (getD es j 0) 0 ≡ f → ⊥) → find-file (map (file-at nb m) es) name ≡ none
     none-in [] e d = refl
     none-in (p ∷ ps) (x, e) d = ap (λ b. pick b (some (file-at nb m p)) (find-file (map (file-at nb m) ps) name)) (differs (bytes nb m (getD m p 0)) name (other-name p x (d 0 (omega arith)))) ∙ none-in ps e (λ j l. d (suc j) (omega arith))
     pub puts-there : (text : List ℕ) (k : ℕ) → (k < getD t 0 0) × (name-at t m k ≡ f) × ((j : ℕ) → j < k → name-at t m j ≡ f → ⊥) → set (texts nb t m) k (record { name = name; text = text }) ≡ puts-file name text (texts nb t m)
@@ -61,6 +61,9 @@ module _ (nb cap : ℕ) (t m : List ℕ) (q : Fits nb cap t m) where
     puts-last text d = sym (puts-new name text (texts nb t m) (none-in (entries t) (q .all-ok) (λ j l e. let h : j < getD t 0 0 = omega (arith, entries-long t (q .in-table)) in d j h (ap (λ p. getD m p 0) (sym (entry-is t j h)) ∙ e))))
     pub file-named : (ns text : List ℕ) → map (bytes nb m) ns ≡ bodies (lines text) → file-is nb m f ns ≡ record { name = name; text = text }
     file-named ns text e = ap (λ x. record { name = x; text = joined (map (bytes nb m) ns) }) is-name ∙ ap (λ x. record { name = name; text = x }) (ap joined e ∙ joined-lines text)
+
+pub file-ok : (nb cap : ℕ) (t m : List ℕ) (k : ℕ) → Fits nb cap t m → k < getD t 0 0 → FileOk nb cap m (getD t (1 + k) 0)
+file-ok nb cap t m k q h = subst (FileOk nb cap m) (entry-is t k h) (every-at (FileOk nb cap m) (entries t) k (omega (arith, entries-long t (q .in-table))) (q .all-ok))
 
 -- the name and the lines have numbers, and no file changed yet
 pub record Ready (nb cap : ℕ) (t m name text m₂ ns : List ℕ) (f : ℕ) : Type 0 where

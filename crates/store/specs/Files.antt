@@ -8,13 +8,16 @@
 -- A file that changes gets a new record; the old one, and lines that no file has, are garbage until all is moved to a fresh row.
 use mathlib.Core.Path.{_≡_}
 use mathlib.Core.Bool.{Bool, true, false}
+use mathlib.Core.Option.{some, none}
 use mathlib.Core.List.{List, [], _∷_, _++_, map}
 use Prim.Native.Nat.{ℕ, _+_, _<_, _≤_}
+use lib.Dec.{eqb}
 use lib.ListN.{length, getD, take, drop, set}
 use Rattle.std.specs.declared.option.Option.{Option as Perhaps}
 use Rattle.std.specs.declared.option.Option.the-variants.{Some, None}
-use Rattle.semantics.specs.Names.{File, Texts}
-use Rattle.semantics.specs.Answers.{puts-file}
+use Rattle.base.specs.Base.{pick, is-some}
+use Rattle.semantics.specs.Names.{File, Texts, find-file}
+use Rattle.semantics.specs.Answers.{puts-file, drops-file}
 use Rattle.store.specs.Lines.{joined, Every}
 use Rattle.store.specs.Index.{count, end, pool, bytes-at, bytes, Sound, Live, Grown, Pooled}
 
@@ -89,3 +92,17 @@ name-at t m k = getD m (getD t (1 + k) 0) 0
 abbrev pub IndexSays : List ℕ → List ℕ → ℕ → Perhaps ℕ → Type 0
 IndexSays t m f (Some k) = (k < getD t 0 0) × (name-at t m k ≡ f) × ((j : ℕ) → j < k → name-at t m j ≡ f → ⊥)
 IndexSays t m f None = (j : ℕ) → j < getD t 0 0 → name-at t m j ≡ f → ⊥
+
+-- the file of a name, if it is open
+abbrev pub FileOfSays : ℕ → List ℕ → List ℕ → List ℕ → Perhaps ℕ → Type 0
+FileOfSays nb t m name (Some k) = (k < getD t 0 0) × (bytes nb m (name-at t m k) ≡ name) × (find-file (texts nb t m) name ≡ some (file-at nb m (getD t (1 + k) 0)))
+FileOfSays nb t m name None = find-file (texts nb t m) name ≡ none
+
+-- the places without those of files whose name has the number f
+abbrev pub others : List ℕ → ℕ → List ℕ → List ℕ
+others m f [] = []
+others m f (p ∷ ps) = pick (eqb (getD m p 0) f) (others m f ps) (p ∷ others m f ps)
+
+-- a file is closed: whether it was open
+abbrev pub CloseSays : List ℕ → Texts → Texts → Bool → Type 0
+CloseSays name p q r = (r ≡ is-some (find-file p name)) × (q ≡ drops-file name p)

@@ -15,6 +15,13 @@ abbrev pub FindSays : ℕ → List ℕ → List ℕ → Perhaps ℕ → Type 0
 FindSays nb m key (Some n) = Live nb m n × (bytes nb m n ≡ key)
 FindSays nb m key None = (n : ℕ) → Live nb m n → bytes nb m n ≡ key → ⊥
 
+-- a number that is not in use, or one past all of them
+pub record NextSays (nb cap : ℕ) (m : List ℕ) (n : ℕ) : Type 0 where
+  pub not-zero : 0 < n
+  pub next : n ≤ count m
+  pub unused : n < count m → place nb m n ≡ 0
+  pub all-used : cap ≤ n → (k : ℕ) → 0 < k → k < cap → Live nb m k
+
 -- a number that is free or the next can get bytes that no number has
 pub record CanAdd (nb cap : ℕ) (m : List ℕ) (n : ℕ) (key : List ℕ) : Type 0 where
   pub sound : Sound nb cap m
@@ -49,10 +56,10 @@ pub record Interned (nb cap : ℕ) (m key m′ : List ℕ) (n : ℕ) : Type 0 wh
   pub count-most : count m′ ≤ count m + 1
   pub long : length m′ ≡ length m
 
--- or nothing changed: there is no number or no room left
+-- or nothing changed: each number is in use, or there is no room left
 abbrev pub InternSays : ℕ → ℕ → List ℕ → List ℕ → List ℕ → Perhaps ℕ → Type 0
 InternSays nb cap m key m′ (Some n) = Interned nb cap m key m′ n
-InternSays nb cap m key m′ None = (m′ ≡ m) × ((cap ≤ count m) ⊎ (length m < end m + 1 + length key))
+InternSays nb cap m key m′ None = (m′ ≡ m) × (((k : ℕ) → 0 < k → k < cap → Live nb m k) ⊎ (length m < end m + 1 + length key))
 
 -- numbers that stand for a text's lines
 pub record Numbered (nb cap : ℕ) (m text m′ ns : List ℕ) : Type 0 where

@@ -5,7 +5,7 @@ use mathlib.Core.List.{List, [], _∷_, _++_}
 use Prim.Native.Nat.{ℕ, _+_, _<_, _≤_}
 use lib.ListN.{length}
 use Rattle.store.specs.Lines.{Every}
-use Rattle.store.specs.Index.{count, bytes, Sound, Live, Grown, Pooled}
+use Rattle.store.specs.Index.{count, pool, bytes, Sound, Live, Grown, Pooled}
 use Rattle.store.specs.Files.{texts, file-at, Fits}
 
 -- w has some of m's numbers, with their bytes
@@ -54,6 +54,7 @@ pub record Same-texts (nb cap : ℕ) (t m t′ w′ : List ℕ) : Type 0 where
   pub filed : Fits nb cap t′ w′
   pub same : texts nb t′ w′ ≡ texts nb t m
 
+-- and there was room for them
 abbrev pub ReclaimSays : ℕ → ℕ → List ℕ → List ℕ → List ℕ → List ℕ → Bool → Type 0
 ReclaimSays nb cap t m t′ w′ true = Same-texts nb cap t m t′ w′
 ReclaimSays nb cap t m t′ w′ false = Unit {0}
@@ -63,3 +64,16 @@ pub record Blank (nb cap c : ℕ) (w : List ℕ) : Type 0 where
   pub sound : Sound nb cap w
   pub counts : count w ≡ c
   pub none-live : (k : ℕ) → Live nb w k → ⊥
+
+-- words enough for nb buckets and cap numbers, and a table
+pub record Roomy (nb cap : ℕ) (t m : List ℕ) : Type 0 where
+  pub some-buckets : 0 < nb
+  pub some-numbers : 0 < cap
+  pub some-table : 0 < length t
+  pub small : length m < 4294967296
+  pub fixed : pool nb cap ≤ length m
+
+-- a store without files
+abbrev pub CreateSays : ℕ → ℕ → List ℕ → List ℕ → List ℕ → List ℕ → Bool → Type 0
+CreateSays nb cap t m t′ m′ true = Fits nb cap t′ m′ × (texts nb t′ m′ ≡ [])
+CreateSays nb cap t m t′ m′ false = Roomy nb cap t m → ⊥

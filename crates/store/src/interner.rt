@@ -1,8 +1,8 @@
 // Numbers for rows of bytes, the same bytes the same number: to find one by its hash, to add one, to intern.
-ghost use Prim.Native.Nat.{_+_, _≤_};
+ghost use Prim.Native.Nat.{ℕ, _+_, _<_, _≤_};
 ghost use Rattle.std.specs.Orderings.{Decides};
-ghost use Rattle.store.specs.Index.{bytes-at, hash-from, Sound};
-ghost use Rattle.store.specs.Interner.{Added, CanAdd, FindSays, InternSays};
+ghost use Rattle.store.specs.Index.{bytes-at, count, hash-from, place, Sound};
+ghost use Rattle.store.specs.Interner.{Added, CanAdd, FindSays, InternSays, NextSays};
 ghost use denote.Ref.{now};
 ghost use lib.ListN.{getD, length};
 ghost use mathlib.Core.Path.{_≡_};
@@ -39,7 +39,7 @@ pub fn intern(words: &mut [u32], buckets: usize, cap: usize, key: &[u32]) -> Opt
     if let Some(n) = find(words, buckets, cap, key) {
         return Some(n);
     }
-    let n = words[0];
+    let n = next_number(words, buckets, cap);
     if n as usize >= cap || words.len() - (words[1] as usize) < 1 + key.len() {
         return None;
     }
@@ -58,6 +58,34 @@ pub fn add(words: &mut [u32], buckets: usize, cap: usize, n: u32, key: &[u32])
     let to = from + 1 + key.len() as u32;
     lay(words, from as usize, key);
     enter(words, buckets, b, n, from, to, count);
+}
+
+// A number for new bytes: the next, and once there are as many as there can be, one that is free.
+fn next_number(words: &[u32], buckets: usize, cap: usize) -> u32
+    requires { ⌜ Sound buckets cap (now words) ⌝ }
+    ensures { λ r. ⌜ NextSays buckets cap (now (words .entry)) r ⌝ }
+{
+    if (words[0] as usize) < cap {
+        return words[0];
+    }
+    free_number(words, buckets, cap)
+}
+
+// The first number that is free; or how many there are.
+fn free_number(words: &[u32], buckets: usize, cap: usize) -> u32
+    requires { ⌜ Sound buckets cap (now words) ⌝ }
+    ensures within { λ r. ⌜ (0 < r) × (r ≤ count (now (words .entry))) ⌝ }
+    ensures free { λ r. ⌜ (r < count (now (words .entry)) → place buckets (now (words .entry)) r ≡ 0) ⌝ }
+    ensures below { λ r. ⌜ ((k : ℕ) → k < r → 0 < k → 0 < place buckets (now (words .entry)) k) ⌝ }
+{
+    let mut n = 1;
+    while n < words[0] {
+        if place_of(words, buckets, n as usize) == 0 {
+            return n;
+        }
+        n += 1;
+    }
+    n
 }
 
 // A number for a row of words, the same for the same words.
