@@ -43,7 +43,7 @@ Goes g b p ws q vs o = (z : Known) → Steps (g (take (b .base) ws)) (take (b .l
 -- one that may ask
 abbrev pub TurnBy : Book → List ℕ → Bounds → Place → List ℕ → List ℕ → Op → Result Place Want → Type 0
 TurnBy k line b p ws vs o (Ok q) = (z : Known) × (fetch (k .knows) (asks o (means k line b p ws)) ≡ has z) × Steps k line b p ws q vs z o
-TurnBy k line b p ws vs o (Err w) = fetch (k .knows) (asks o (means k line b p ws)) ≡ lacks (query-is k line w)
+TurnBy k line b p ws vs o (Err w) = (fetch (k .knows) (asks o (means k line b p ws)) ≡ lacks (query-is k line w)) × (take (code-end b) vs ≡ take (code-end b) ws)
 abbrev pub TurnSays : (List ℕ → Book) → Bounds → Place → List ℕ → List ℕ → (List ℕ → Op) → Result Place Want → Type 0
 TurnSays g b p ws vs o r = TurnBy (g (take (b .base) ws)) (take (b .len) ws) b p ws vs (o (take (b .len) ws)) r
 

@@ -5,3 +5,6 @@ pub mod said;
 pub mod types;
 pub mod verdict;
 pub mod turns;
+pub mod calls;
+pub mod lines;
+pub mod check;
