@@ -8,14 +8,14 @@ use native.Mathlib.Omega.{arith}
 use lib.ListN.{take}
 use lib.Dec.{eqb}
 use borrow.Author.Tests.{ne-eqb}
-use Rattle.std.specs.declared.result.Result.the-variants.{Ok, Err}
-use Rattle.base.specs.Base.{pick, opt, is-some, Word, same}
+use Rattle.std.specs.declared.result.Result.the-variants.{Ok}
+use Rattle.base.specs.Base.{pick, opt, Word, same}
 use Rattle.lexer.specs.Tokens.{Tok}
 use Rattle.lexer.specs.Words.{k-num, k-bool}
 use Rattle.parser.specs.Rows.{op-is}
 use Rattle.parser.specs.declared.code.Op.{Op}
 use Rattle.semantics.specs.Names.{Ty, t-num, t-bool, t-of, Sig, s-unknown, s-several, s-type, s-const, s-rec, s-def}
-use Rattle.semantics.specs.Check.{Said, said, Fault, Link, fault, Local, find, in-front, ty-in, wrong, quiet, Callee, calls-it, of-record, of-type, count-fault}
+use Rattle.semantics.specs.Check.{said, Fault, Link, fault, Local, find, in-front, ty-in, wrong, quiet, Callee, calls-it, of-record, of-type, count-fault}
 use Rattle.semantics.specs.Walk.{State, state, begins, add, tells, Query, q-here, k-yes, k-sig, Fetch, has, fetch, asks, asks-name}
 use Rattle.checker.specs.declared.rows.Bounds.{Bounds}
 use Rattle.checker.specs.declared.rows.Place.{Place}

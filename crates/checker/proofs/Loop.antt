@@ -1,16 +1,15 @@
 -- The loop: one operation more, a stop, and the end.
 use mathlib.Core.Path.{_≡_, refl, sym, ap, subst, _∙_}
-use mathlib.Core.List.{List, [], _∷_}
-use Prim.Native.Nat.{ℕ, zero, suc, _+_, _-_, _*_, _≤_, _<_}
+use mathlib.Core.List.{List, _∷_}
+use Prim.Native.Nat.{ℕ, _+_, _-_, _*_, _≤_, _<_}
 use native.Mathlib.Omega.{arith}
 use lib.ListN.{length, getD, take, drop}
 use Rattle.std.specs.declared.result.Result.{Result}
 use Rattle.std.specs.declared.result.Result.the-variants.{Ok, Err}
 use Rattle.std.proofs.shelf.Lists.{drop-more, drop-all, getD-take, take-take, length-take-le}
-use Rattle.grammar.specs.Code.{Op as Flat}
 use Rattle.parser.specs.Rows.{ops, ops-of, op-of, op-is}
 use Rattle.parser.specs.declared.code.Op.{Op}
-use Rattle.semantics.specs.Walk.{State, tries, start, need, ends, go-on, fetch, asks, step}
+use Rattle.semantics.specs.Walk.{tries, start, need, ends, go-on, step}
 use Rattle.checker.specs.declared.lookup.Want.{Want}
 use Rattle.checker.specs.declared.rows.Bounds.{Bounds}
 use Rattle.checker.specs.declared.rows.Place.{Place}
@@ -45,10 +44,6 @@ left-on line ws vs base n i o l h e r =
     let p0 = word j (omega arith) in let p1 = word (j + 1) (omega arith) in let p2 = word (j + 2) (omega arith) in let p3 = word (j + 3) (omega arith) in let p4 = word (j + 4) (omega arith) in
     ap (ops line) (five-on T j (omega arith)) ∙ (λ x. op-of line (p0 x) (p1 x) (p2 x) (p3 x) (p4 x) ∷ ops line (drop (next x) T)) ∙ ap (λ f. f ∷ ops line (drop (base + 5 * (i + 1)) T)) (sym (r line))
 module _ (g : List ℕ → Book) (b : Bounds) (ws : List ℕ) (lb : b .len ≤ b .base) (room : b .base + 25 * b .count ≤ length ws) where
-  K : Book
-  K = g (take (b .base) ws)
-  line : List ℕ
-  line = take (b .len) ws
   turned : (p : Place) (vs us : List ℕ) (o : Op) (r : Result Place Want) → take (code-end b) vs ≡ take (code-end b) ws → TurnSays g b p vs us (λ l. op-is l o) r → TurnBy (g (take (b .base) ws)) (take (b .len) ws) b p vs us (op-is (take (b .len) ws) o) r
   turned p vs us o r e t = subst (λ f. TurnBy (g f) (take (b .len) ws) b p vs us (op-is (take (b .len) ws) o) r) (shorter (b .base) (code-end b) vs ws (omega arith) e) (subst (λ l. TurnBy (g (take (b .base) vs)) l b p vs us (op-is l o) r) (shorter (b .len) (code-end b) vs ws (omega arith) e) t)
   pub goes-on : (i : ℕ) (p q : Place) (vs us : List ℕ) (o : Op) → i < b .count → Went-on g b ws i p vs → Reads vs (b .base) i o → TurnSays g b p vs us (λ l. op-is l o) (Ok q) → Went-on g b ws (i + 1) q us

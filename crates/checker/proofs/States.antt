@@ -1,33 +1,20 @@
--- States: one write behind another, and what is said behind what was said.
-use mathlib.Core.Path.{_≡_, refl, sym, ap, subst, _∙_}
+-- States: what is said behind what was said.
+use mathlib.Core.Path.{_≡_, refl, ap}
 use mathlib.Core.List.{List, [], _∷_, _++_, append-assoc, append-nil}
 use mathlib.Core.Option.{Option, some, none}
 use Prim.Native.Nat.{ℕ}
-use lib.ListN.{take}
 use Rattle.base.specs.Base.{opt}
 use Rattle.lexer.specs.Kinds.{operator}
 use Rattle.lexer.specs.declared.token.Operator.{Operator}
 use Rattle.lexer.specs.declared.token.Operator.the-variants.{Plus, Minus, Times, Equal, Less, And, Or}
 use Rattle.semantics.specs.Names.{Ty}
-use Rattle.semantics.specs.Check.{Said, said, Fault, Typed, Link, faults-in, types-in, links-in, typed, wants, of-slot}
-use Rattle.semantics.specs.Walk.{Frame as Fr, Output, State, state, value, says, tells, op-faults-at, add}
-use Rattle.checker.specs.declared.rows.Bounds.{Bounds}
-use Rattle.checker.specs.declared.rows.Place.{Place}
-use Rattle.checker.specs.Rows.{Book, typ, means, with-said, valued, code-end, Writes}
+use Rattle.semantics.specs.Check.{said, Fault, Typed, Link, typed, wants, of-slot}
+use Rattle.semantics.specs.Walk.{Frame as Fr, Output, State, state, value, says, tells, op-faults-at}
+use Rattle.checker.specs.Rows.{Book, typ, with-said, valued}
 use Rattle.checker.specs.Turns.{operand-word}
 
-pub and-then1 : (b : Bounds) (p q r : Place) (ws vs us : List ℕ) (F G : Book → List ℕ → State → State) → Writes b p ws q vs F → Writes b q vs r us G → Writes b p ws r us (λ k line σ. G k line (F k line σ))
-and-then1 b p q r ws vs us F G f g = record { before = g .before ∙ f .before; becomes = λ k line. g .becomes k line ∙ ap (G k line) (f .becomes k line) }
-pub is-as : (b : Bounds) (p q : Place) (ws vs : List ℕ) (F G : Book → List ℕ → State → State) → ((k : Book) (line : List ℕ) (σ : State) → F k line σ ≡ G k line σ) → Writes b p ws q vs F → Writes b p ws q vs G
-is-as b p q ws vs F G e f = record { before = f .before; becomes = λ k line. f .becomes k line ∙ e k line (means k line b p ws) }
 pub output : (f g : List Fault) (t u : List Typed) (l m : List Link) → f ≡ g → t ≡ u → l ≡ m → _≡_ {A = Output} (record { faults = f; types = t; links = l }) (record { faults = g; types = u; links = m })
 output f g t u l m p q r = λ i. record { faults = p i; types = q i; links = r i }
-pub add-none : (o : Output) → add o (said none [] [] []) ≡ o
-add-none o = output _ _ _ _ _ _ (append-nil (o .faults)) (append-nil (o .types)) (append-nil (o .links))
-pub says-none : (σ : State) → with-said (said none [] [] []) σ ≡ σ
-says-none σ = ap (state (σ .stack) (σ .bound)) (add-none (σ .out))
-pub add-add : (o : Output) (s t : Said) → add (add o s) t ≡ add o (said none (faults-in s ++ faults-in t) (types-in s ++ types-in t) (links-in s ++ links-in t))
-add-add o s t = output _ _ _ _ _ _ (append-assoc (o .faults) (faults-in s) (faults-in t)) (append-assoc (o .types) (types-in s) (types-in t)) (append-assoc (o .links) (links-in s) (links-in t))
 -- faults behind faults; and what is said of a value before its type is noted
 pub tells-tells : (x y : List Fault) (σ : State) → with-said (tells y) (with-said (tells x) σ) ≡ with-said (tells (x ++ y)) σ
 tells-tells x y σ = ap (state (σ .stack) (σ .bound)) (output _ _ _ _ _ _ (append-assoc (σ .out .faults) x y) (append-nil (σ .out .types ++ [])) (append-nil (σ .out .links ++ [])))

@@ -1,5 +1,5 @@
 -- From the walk to what the definition says of a line.
-use mathlib.Core.Path.{_≡_, refl, sym, ap, _∙_}
+use mathlib.Core.Path.{_≡_, sym, ap, _∙_}
 use mathlib.Core.List.{List}
 use mathlib.Core.Option.{Option, some, none}
 use Prim.Native.Nat.{ℕ}
@@ -8,7 +8,7 @@ use Rattle.std.specs.declared.result.Result.the-variants.{Ok, Err}
 use Rattle.base.specs.Base.{opt}
 use Rattle.grammar.specs.Code.{item-code}
 use Rattle.parser.specs.Rows.{ops-of}
-use Rattle.semantics.specs.Walk.{State, Query, Outcome, tries, start, need, ends, answer, run, asked, first-lacking}
+use Rattle.semantics.specs.Walk.{State, Query, tries, start, need, ends, answer, run, asked, first-lacking}
 use Rattle.semantics.proofs.Whole.{item-runs}
 use Rattle.semantics.proofs.Partial.{tries-is}
 use Rattle.checker.specs.declared.lookup.Want.{Want}

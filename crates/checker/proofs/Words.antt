@@ -1,27 +1,27 @@
 -- Rows of words as frames, names and what was said: what a write leaves, and what a read finds.
 use mathlib.Core.Path.{_≡_, refl, sym, ap, subst, _∙_}
-use mathlib.Core.Bool.{Bool, true, false}
+use mathlib.Core.Bool.{true, false}
 use mathlib.Core.List.{List, [], _∷_, _++_}
-use mathlib.Core.Option.{some, none}
+use mathlib.Core.Option.{some}
 use mathlib.Core.Logic.{⊎-elim}
 use Prim.Native.Nat.{ℕ, zero, suc, _+_, _-_, _*_, _≤_, _<_, min, max}
 use native.Mathlib.Omega.{arith}
 use native.Mathlib.Numerals.{add-one}
-use lib.ListN.{length, getD, take, drop, length-drop}
+use lib.ListN.{length, getD, take, drop}
 use borrow.Rule.Slice.PartMut.{putMid}
 use Rattle.std.proofs.shelf.Lists.{getD-append-left, getD-append-right, getD-take, getD-drop, length-take-le, take-append-le, take-take, drop-drop}
 use Rattle.std.proofs.shelf.Lists.{take-all, drop-all}
 use Rattle.std.proofs.shelf.Parts.{between-is}
 use Rattle.std.proofs.shelf.Tests.{cases-lt}
 use Rattle.base.specs.Base.{pick, Word, same}
-use Rattle.semantics.specs.Check.{Local, Said, find}
-use Rattle.semantics.specs.Walk.{Frame as Fr, Output, State, state, add, silent, pop, top}
+use Rattle.semantics.specs.Check.{Local, find}
+use Rattle.semantics.specs.Walk.{state, add, pop, top}
 use Rattle.checker.specs.declared.rows.Bounds.{Bounds}
 use Rattle.checker.specs.declared.rows.Place.{Place}
 use Rattle.checker.specs.declared.rows.Frame.{Frame}
 use Rattle.checker.specs.declared.rows.Bound.{Bound}
 use Rattle.checker.specs.declared.rows.Event.{Event}
-use Rattle.checker.specs.Rows.{Book, frame-is, frame-words, frames-in, bound-is, bound-words, names-in, event-said, event-is, said-in, code-end, names-at, frames-at, means, with-frame, with-name, with-said, without-frame, without-name, Fits, pasted, Writes}
+use Rattle.checker.specs.Rows.{Book, frame-is, frame-words, frames-in, bound-is, bound-words, names-in, event-said, event-is, said-in, code-end, names-at, frames-at, with-frame, with-name, with-said, Fits, pasted, Writes}
 
 -- a row written from i on
 module _ (ws row : List ℕ) (i : ℕ) (h : i + length row ≤ length ws) where

@@ -1,14 +1,14 @@
 -- What the turns promise that look names up.
 use mathlib.Core.Path.{_≡_}
-use mathlib.Core.Bool.{Bool, true, false}
-use mathlib.Core.List.{List, [], _∷_, _++_}
-use mathlib.Core.Option.{Option, some, none}
+use mathlib.Core.Bool.{Bool}
+use mathlib.Core.List.{List, [], _∷_}
+use mathlib.Core.Option.{some, none}
 use Prim.Native.Nat.{ℕ}
 use Rattle.std.specs.declared.result.Result.{Result}
 use Rattle.std.specs.declared.result.Result.the-variants.{Ok, Err}
 use Rattle.base.specs.Base.{opt, pick}
 use Rattle.lexer.specs.Tokens.{Tok}
-use Rattle.semantics.specs.Names.{t-of, Slot, Sig}
+use Rattle.semantics.specs.Names.{t-of, Sig}
 use Rattle.semantics.specs.Check.{Said, said, wrong, in-front, of-record, of-type, typed, callee, count-fault}
 use Rattle.semantics.specs.Walk.{State, state, says, add, Known, lacks, has, fetch, asks-type, asks-word, the-sig}
 use Rattle.checker.specs.declared.lookup.Meaning.{Meaning}

@@ -13,26 +13,20 @@
 --   3 a link to the name bound there   3 + n the lookup's type n
 --   any other: a link to a file
 use mathlib.Core.Path.{_≡_}
-use mathlib.Core.Bool.{Bool, true, false}
+use mathlib.Core.Bool.{Bool}
 use mathlib.Core.List.{List, [], _∷_, _++_}
 use mathlib.Core.Option.{Option, some, none}
-use Prim.Native.Nat.{ℕ, zero, suc, _+_, _-_, _*_, _≤_, _<_}
+use Prim.Native.Nat.{ℕ, zero, suc, _+_, _-_, _*_, _≤_}
 use lib.ListN.{length, getD, take, drop}
 use lib.Dec.{eqb}
 use Rattle.std.specs.declared.option.Option.{Option as Maybe}
 use Rattle.std.specs.declared.option.Option.the-variants.{Some, None}
-use Rattle.std.specs.declared.result.Result.{Result}
-use Rattle.std.specs.declared.result.Result.the-variants.{Ok, Err}
 use Rattle.base.specs.Base.{pick, opt, Word}
 use Rattle.lexer.specs.Tokens.{Tok, piece}
-use Rattle.grammar.specs.Code.{Op}
-use Rattle.parser.specs.Rows.{span-of, op-of}
-use Rattle.parser.specs.declared.code.Span.{Span}
+use Rattle.parser.specs.Rows.{span-of}
 use Rattle.semantics.specs.Names.{Ty, t-num, t-bool, t-of, Slot, Sig, s-unknown, s-several, s-type, s-const, s-rec, s-def}
-use Rattle.semantics.specs.Check.{Said, said, Fault, fault, Link as Links, Local as Named, find, field-of, link-to, link-local}
-use Rattle.semantics.specs.Walk.{Frame as Fr, Output, State, state, value, add, silent, pop, step, Query, q-here, q-there, q-file, q-before, Known, k-sig, k-yes, Fetch, lacks, has, fetch, asks, tries, need, ends, start}
-use Rattle.checker.specs.declared.lookup.SigId.{SigId}
-use Rattle.checker.specs.declared.lookup.TypeId.{TypeId}
+use Rattle.semantics.specs.Check.{Said, said, Fault, fault, Link as Links, Local as Named, find, field-of, link-to}
+use Rattle.semantics.specs.Walk.{Frame as Fr, Output, State, state, value, add, silent, pop, Query, q-here, q-there, q-file, q-before, k-sig, k-yes, Fetch, lacks, has}
 use Rattle.checker.specs.declared.lookup.Sort.{Sort}
 use Rattle.checker.specs.declared.lookup.Sort.the-variants.{Kind, Const, Rec, Def}
 use Rattle.checker.specs.declared.lookup.Meaning.{Meaning}

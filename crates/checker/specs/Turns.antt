@@ -1,19 +1,19 @@
 -- What each turn of the checker promises: it does one step of the walk, or lacks what that asks.
 use mathlib.Core.Path.{_≡_}
 use mathlib.Core.Bool.{Bool, true, false}
-use mathlib.Core.List.{List, [], _∷_, _++_}
+use mathlib.Core.List.{List, [], _∷_}
 use mathlib.Core.Option.{Option, some, none}
-use Prim.Native.Nat.{ℕ, zero, suc, _+_, _-_, _*_, _≤_, _<_}
+use Prim.Native.Nat.{ℕ, _+_, _-_, _*_, _≤_, _<_}
 use lib.ListN.{length, take}
 use lib.Dec.{eqb, leb}
 use Rattle.std.specs.declared.result.Result.{Result}
 use Rattle.std.specs.declared.result.Result.the-variants.{Ok, Err}
-use Rattle.base.specs.Base.{pick, opt, Word}
+use Rattle.base.specs.Base.{pick}
 use Rattle.lexer.specs.Tokens.{Tok}
 use Rattle.grammar.specs.Code.{Op}
-use Rattle.semantics.specs.Names.{Ty, t-of, Slot, Sig, s-unknown, s-several, s-type, s-const, s-rec, s-def}
+use Rattle.semantics.specs.Names.{t-of, Slot, Sig, s-unknown, s-several, s-type, s-const, s-rec, s-def}
 use Rattle.semantics.specs.Check.{Said, said, fault, wrong, link-to, name-alone, Callee, calls-it, callee}
-use Rattle.semantics.specs.Walk.{State, step, Known, Query, Fetch, lacks, has, fetch, asks, asks-type, the-sig}
+use Rattle.semantics.specs.Walk.{step, Known, lacks, has, fetch, asks}
 use Rattle.checker.specs.declared.lookup.Sort.{Sort}
 use Rattle.checker.specs.declared.lookup.Sort.the-variants.{Kind, Const, Rec, Def}
 use Rattle.checker.specs.declared.lookup.Want.{Want}

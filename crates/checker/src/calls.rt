@@ -1,12 +1,11 @@
 // Names alone, calls and fields: what they mean is looked up.
 ghost use denote.Ref.{now};
 ghost use mathlib.Core.Path.{_≡_};
-ghost use mathlib.Core.List.{List, [], _∷_, _++_};
-ghost use Prim.Native.Nat.{ℕ, _+_, _*_, _-_, _<_, _≤_};
-ghost use lib.ListN.{length, take, drop};
+ghost use Prim.Native.Nat.{_+_, _*_, _-_, _<_, _≤_};
+ghost use lib.ListN.{take};
 ghost use Rattle.grammar.specs.Code.{«o-name», «o-call», «o-field»};
 ghost use Rattle.parser.specs.Rows.{«span-of»};
-ghost use Rattle.checker.specs.Rows.{Book, typ, «verdict-said», «meaning-is», Fits, Within, Writes};
+ghost use Rattle.checker.specs.Rows.{«verdict-said», «meaning-is», Fits, Within, Writes};
 ghost use Rattle.checker.specs.Turns.{Ready, TurnSays};
 ghost use Rattle.checker.specs.Asks.{«told-value», begun, SlotsSay, «member-said», FieldTurn};
 use crate::lookup::FIRST;

@@ -1,11 +1,10 @@
 // The whole: a line's code, operation by operation.
 ghost use denote.Ref.{now};
 ghost use mathlib.Core.Path.{_≡_};
-ghost use mathlib.Core.List.{List};
-ghost use Prim.Native.Nat.{ℕ, _+_, _*_, _<_, _≤_};
+ghost use Prim.Native.Nat.{_+_, _*_, _<_, _≤_};
 ghost use lib.ListN.{length, take};
 ghost use Rattle.parser.specs.Rows.{«op-is»};
-ghost use Rattle.checker.specs.Rows.{Book, «code-end»};
+ghost use Rattle.checker.specs.Rows.{«code-end»};
 ghost use Rattle.checker.specs.Turns.{Ready, TurnSays};
 ghost use Rattle.checker.specs.Whole.{WentSays, «told-of», Few, LineSays};
 use crate::calls::call;

@@ -1,16 +1,15 @@
 // What a line declares or uses: files, names that are new, fields and parameters, and a def's result.
 ghost use denote.Ref.{now};
 ghost use mathlib.Core.Path.{_≡_};
-ghost use mathlib.Core.Bool.{Bool};
-ghost use mathlib.Core.List.{List, [], _∷_, _++_};
-ghost use Prim.Native.Nat.{ℕ, _+_, _*_, _-_, _<_, _≤_};
-ghost use lib.ListN.{length, take, drop};
+ghost use mathlib.Core.List.{[], _∷_};
+ghost use Prim.Native.Nat.{ℕ, _-_, _<_};
+ghost use lib.ListN.{take};
 ghost use Rattle.base.specs.Base.{pick, «is-some»};
 ghost use Rattle.lexer.specs.Tokens.{Tok};
 ghost use Rattle.grammar.specs.Code.{«o-use», «o-new», «o-const», «o-slot», «o-result»};
 ghost use Rattle.parser.specs.Rows.{«span-of»};
 ghost use Rattle.semantics.specs.Check.{fault as fault-of, find as found-in};
-ghost use Rattle.checker.specs.Rows.{Book, means, blamed, «verdict-said», Fits, Within, Writes};
+ghost use Rattle.checker.specs.Rows.{Book, means, blamed, «verdict-said», Fits, Within};
 ghost use Rattle.checker.specs.Turns.{Ready, TurnSays};
 ghost use Rattle.checker.specs.Asks.{«file-said», TypeTurn};
 use base::same_word;

@@ -1,12 +1,12 @@
 // Frames, bound names and what was said, in words. No write can fail for want of room: its caller has seen to that.
 ghost use denote.Ref.{now};
 ghost use mathlib.Core.Path.{_≡_};
-ghost use mathlib.Core.List.{List, [], _∷_, _++_};
+ghost use mathlib.Core.List.{List, _∷_};
 ghost use Prim.Native.Nat.{ℕ, _+_, _*_, _-_, _<_, _≤_};
-ghost use lib.ListN.{length, getD, take, drop};
+ghost use lib.ListN.{length, take};
 ghost use Rattle.semantics.specs.Walk.{top as newest-of};
 ghost use Rattle.parser.specs.Rows.{«span-of»};
-ghost use Rattle.checker.specs.Rows.{Book, «frame-is», «bound-is», «event-is», means, «names-in», «names-at», «code-end», «with-frame», «with-name», «with-said», «without-frame», «without-name», Fits, pasted, Writes, FindSays};
+ghost use Rattle.checker.specs.Rows.{Book, «frame-is», «bound-is», «event-is», means, «names-in», «names-at», «with-frame», «with-name», «with-said», «without-frame», «without-name», Fits, pasted, Writes, FindSays};
 use base::same_word;
 use parser::code::Span;
 

@@ -1,12 +1,12 @@
 // What is said: faults, links, types, and values with their types.
 ghost use denote.Ref.{now};
 ghost use mathlib.Core.Path.{_≡_};
-ghost use mathlib.Core.List.{List, [], _∷_, _++_};
+ghost use mathlib.Core.List.{[]};
 ghost use mathlib.Core.Option.{none};
-ghost use Prim.Native.Nat.{ℕ, _+_, _*_, _-_, _<_, _≤_};
+ghost use Prim.Native.Nat.{_+_, _*_, _-_, _<_, _≤_};
 ghost use Rattle.parser.specs.Rows.{«span-of»};
 ghost use Rattle.semantics.specs.Check.{said};
-ghost use Rattle.checker.specs.Rows.{Book, typ, «with-said», «noted-type», blamed, «links-is», «verdict-said», valued, Fits, Writes};
+ghost use Rattle.checker.specs.Rows.{typ, «with-said», «noted-type», blamed, «links-is», «verdict-said», valued, Fits, Writes};
 use crate::lookup::NONE;
 use crate::lookup::SigId;
 use crate::rows::Bounds;

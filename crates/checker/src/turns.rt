@@ -1,17 +1,17 @@
 // One turn for each operation. Whatever has to be looked up is looked up before anything is written.
 ghost use denote.Ref.{now};
 ghost use mathlib.Core.Path.{_≡_};
-ghost use mathlib.Core.List.{List, [], _∷_, _++_};
+ghost use mathlib.Core.List.{List, _++_};
 ghost use Prim.Native.Nat.{ℕ, _+_, _*_, _-_, _<_, _≤_};
-ghost use lib.ListN.{length, take, drop};
+ghost use lib.ListN.{take};
 ghost use Rattle.lexer.specs.Kinds.{operator};
-ghost use Rattle.grammar.specs.Code.{«o-num», «o-name», «o-call», «o-arg», «o-end», «o-field», «o-op», «o-cond», «o-if», «o-bind», «o-let», «o-par», «o-use», «o-new», «o-const», «o-slot», «o-result», «o-body», «o-bad»};
+ghost use Rattle.grammar.specs.Code.{«o-num», «o-arg», «o-end», «o-op», «o-cond», «o-if», «o-bind», «o-let», «o-par», «o-body», «o-bad»};
 ghost use Rattle.parser.specs.Rows.{«span-of»};
 ghost use mathlib.Core.Option.{some};
 ghost use Rattle.semantics.specs.Check.{«of-slot», «op-type»};
 ghost use Rattle.semantics.specs.Walk.{tells};
 ghost use Rattle.checker.specs.Rows.{Book, typ, means, «code-end», «with-said», Fits};
-ghost use Rattle.checker.specs.Turns.{Ready, Goes, TurnSays, «operand-word»};
+ghost use Rattle.checker.specs.Turns.{Ready, Goes, «operand-word»};
 use crate::lookup::BOOL;
 use crate::lookup::Lookup;
 use crate::lookup::NONE;

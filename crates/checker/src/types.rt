@@ -1,9 +1,8 @@
 // Types held against each other, and the slots of a call that begun.
 ghost use denote.Ref.{now};
 ghost use mathlib.Core.Path.{_≡_};
-ghost use mathlib.Core.List.{List, [], _∷_, _++_};
-ghost use Prim.Native.Nat.{ℕ, _+_, _*_, _-_, _<_, _≤_};
-ghost use lib.ListN.{length, take, drop};
+ghost use Prim.Native.Nat.{ℕ, _+_, _-_, _<_};
+ghost use lib.ListN.{take};
 ghost use Rattle.base.specs.Base.{«or-else»};
 ghost use Rattle.semantics.specs.Check.{«of-slot»};
 ghost use Rattle.semantics.specs.Walk.{«first-slot», pop as others};

@@ -1,11 +1,10 @@
 // What is found of a name that means something declared, or nothing, or several things.
 ghost use denote.Ref.{now};
 ghost use mathlib.Core.Path.{_≡_};
-ghost use mathlib.Core.List.{List, [], _∷_, _++_};
-ghost use Prim.Native.Nat.{ℕ, _+_, _*_, _-_, _<_, _≤_};
-ghost use lib.ListN.{length, take, drop};
+ghost use Prim.Native.Nat.{_-_, _<_};
+ghost use lib.ListN.{take};
 ghost use Rattle.lexer.specs.Tokens.{Tok};
-ghost use Rattle.checker.specs.Rows.{Book, typ, «verdict-said», «meaning-is», «sig-is», Within};
+ghost use Rattle.checker.specs.Rows.{«verdict-said», «meaning-is», «sig-is», Within};
 ghost use Rattle.checker.specs.Turns.{«role-fits», «role-said»};
 use crate::lookup::Lookup;
 use crate::lookup::Meaning;

@@ -1,5 +1,4 @@
 use mathlib.Core.Path.{_∙_, sym}
-use mathlib.Core.Option.{some}
 use native.Mathlib.Omega.{arith}
 use lib.ListN.{take}
 use Rattle.semantics.specs.Names.{t-bool}

@@ -1,7 +1,5 @@
-use mathlib.Core.Path.{_∙_, ap, sym, subst}
-use Prim.Native.Nat.{_≤_, _<_}
 use native.Mathlib.Omega.{arith}
-use lib.ListN.{length, take}
+use lib.ListN.{take}
 use Rattle.checker.proofs.Slots.{next-left, none-left}
 use Rattle.checker.proofs.types.next_of.Needs as need
 
