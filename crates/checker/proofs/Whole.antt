@@ -20,13 +20,16 @@ use Rattle.checker.specs.Whole.{LineBy}
 ends-so : (o : Option Query) (σ τ : State) → ends σ ≡ opt o (ends τ) need → σ ≡ τ
 ends-so none σ τ e = cc
 ends-so (some q) σ τ e = let z : _≡_ {A = ℕ} 0 1 = cc in absurd (omega arith)
+
 needs-so : (o : Option Query) (q : Query) (τ : State) → need q ≡ opt o (ends τ) need → o ≡ some q
 needs-so none q τ e = let z : _≡_ {A = ℕ} 0 1 = cc in absurd (omega arith)
 needs-so (some p) q τ e = cc
+
 pub line-ends : (k : Book) (line : List ℕ) (b : Bounds) (ws vs : List ℕ) (p : Place) → tries (k .knows) (ops-of line (b .base) (b .count) ws) start ≡ ends (means k line b p vs) → LineBy k line b ws vs (Ok (p .events))
 line-ends k line b ws vs p e me here there files before it ok c =
     let f = answer me here there files before in
     ap (λ σ. σ .out) (ends-so (first-lacking (k .knows) (asked f (item-code it) start)) (means k line b p vs) (run f (item-code it) start) (sym e ∙ ap (λ os. tries (k .knows) os start) c ∙ tries-is (k .knows) f ok (item-code it) start)) ∙ item-runs me here there files before it
+
 pub line-needs : (k : Book) (line : List ℕ) (b : Bounds) (ws vs : List ℕ) (w : Want) → tries (k .knows) (ops-of line (b .base) (b .count) ws) start ≡ need (query-is k line w) → LineBy k line b ws vs (Err w)
 line-needs k line b ws vs w e me here there files before it ok c =
     let f = answer me here there files before in

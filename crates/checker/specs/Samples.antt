@@ -9,14 +9,18 @@ use Rattle.checker.specs.Rows.{Book, Origin, Declared}
 
 abbrev pub nowhere : Origin
 nowhere = record { file = []; name = [] }
+
 abbrev pub undeclared : Declared
 undeclared = record { file = []; name = []; sort = Kind; slots = []; result = none }
+
 abbrev pub knows-nothing-is : Query → Fetch Query
 knows-nothing-is (q-here w) = has (k-sig s-unknown)
 knows-nothing-is (q-there f n) = has (k-sig s-unknown)
 knows-nothing-is (q-file w) = has (k-yes false)
 knows-nothing-is (q-before w) = has (k-yes false)
+
 abbrev pub empty-book : Book
 empty-book = record { types = λ n. nowhere; sigs = λ n. undeclared; knows = knows-nothing-is }
+
 abbrev pub blank-book : Book
 blank-book = record { types = λ n. nowhere; sigs = λ n. undeclared; knows = lacks }

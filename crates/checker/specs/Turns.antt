@@ -30,6 +30,7 @@ pub record Ready (b : Bounds) (p : Place) (ws : List ℕ) : Type 0 where
   pub frame-room : p .height < b .count
   pub name-room : p .names < b .count
   pub said-room : p .events + 3 ≤ 3 * b .count
+
 -- one step, told z
 pub record Steps (k : Book) (line : List ℕ) (b : Bounds) (p : Place) (ws : List ℕ) (q : Place) (vs : List ℕ) (z : Known) (o : Op) : Type 0 where
   pub before : take (code-end b) vs ≡ take (code-end b) ws
@@ -37,13 +38,16 @@ pub record Steps (k : Book) (line : List ℕ) (b : Bounds) (p : Place) (ws : Lis
   pub name-more : q .names ≤ p .names + 1
   pub said-more : q .events ≤ p .events + 3
   pub becomes : means k line b q vs ≡ step z o (means k line b p ws)
+
 -- an operation that asks nothing
 abbrev pub Goes : (List ℕ → Book) → Bounds → Place → List ℕ → Place → List ℕ → (List ℕ → Op) → Type 0
 Goes g b p ws q vs o = (z : Known) → Steps (g (take (b .base) ws)) (take (b .len) ws) b p ws q vs z (o (take (b .len) ws))
+
 -- one that may ask
 abbrev pub TurnBy : Book → List ℕ → Bounds → Place → List ℕ → List ℕ → Op → Result Place Want → Type 0
 TurnBy k line b p ws vs o (Ok q) = (z : Known) × (fetch (k .knows) (asks o (means k line b p ws)) ≡ has z) × Steps k line b p ws q vs z o
 TurnBy k line b p ws vs o (Err w) = (fetch (k .knows) (asks o (means k line b p ws)) ≡ lacks (query-is k line w)) × (take (code-end b) vs ≡ take (code-end b) ws)
+
 abbrev pub TurnSays : (List ℕ → Book) → Bounds → Place → List ℕ → List ℕ → (List ℕ → Op) → Result Place Want → Type 0
 TurnSays g b p ws vs o r = TurnBy (g (take (b .base) ws)) (take (b .len) ws) b p ws vs (o (take (b .len) ws)) r
 
@@ -61,6 +65,7 @@ role-fits Typed Kind = true
 role-fits Typed Const = false
 role-fits Typed Rec = true
 role-fits Typed Def = false
+
 abbrev pub type-said : Tok → Sig → Said
 type-said t s-unknown = wrong t 2
 type-said t s-several = wrong t 3
@@ -68,14 +73,18 @@ type-said t (s-type f n) = said (some (t-of f n)) [] [] (link-to t f n ∷ [])
 type-said t (s-const f n o) = said none (fault (t .from) (t .to) 8 ∷ []) [] (link-to t f n ∷ [])
 type-said t (s-rec f n ss) = said (some (t-of f n)) [] [] (link-to t f n ∷ [])
 type-said t (s-def f n ss o) = said none (fault (t .from) (t .to) 8 ∷ []) [] (link-to t f n ∷ [])
+
 abbrev pub callee-said : Callee → Said
 callee-said (calls-it o c) = c
+
 abbrev pub callee-slots : Callee → Option (List Slot)
 callee-slots (calls-it o c) = o
+
 abbrev pub role-said : Role → Tok → Sig → Said
 role-said Alone t s = name-alone t s
 role-said Called t s = callee-said (callee t s)
 role-said Typed t s = type-said t s
+
 -- the word of the type that both operands have to be; of == there is none
 abbrev pub operand-word : ℕ → ℕ
 operand-word o = pick (eqb o 3) 0 (pick (leb 5 o) 2 1)

@@ -25,22 +25,28 @@ use Rattle.checker.specs.Rows.{Book, means, said-in, code-end, query-is}
 abbrev pub WentBy : Book → List ℕ → Bounds → List ℕ → List ℕ → Went → Type 0
 WentBy k line b ws vs (Ends p) = (tries (k .knows) (ops-of line (b .base) (b .count) ws) start ≡ ends (means k line b p vs)) × (p .events ≤ 3 * b .count)
 WentBy k line b ws vs (Needs w) = tries (k .knows) (ops-of line (b .base) (b .count) ws) start ≡ need (query-is k line w)
+
 abbrev pub WentSays : (List ℕ → Book) → Bounds → List ℕ → List ℕ → Went → Type 0
 WentSays g b ws vs r = WentBy (g (take (b .base) ws)) (take (b .len) ws) b ws vs r
+
 -- what is given back: how many things were said, or what has to be known
 abbrev pub told-of : Went → Result ℕ Want
 told-of (Ends p) = Ok (p .events)
 told-of (Needs w) = Err w
+
 abbrev pub Few : Bounds → Result ℕ Want → Type 0
 Few b (Ok n) = n ≤ 3 * b .count
 Few b (Err w) = Unit {0}
+
 -- where what the lookup knows is so: what was said is what the definition says of the line whose code it is; or what has to be known
 -- is the first thing of all that the whole walk asks which the lookup doesn't know
 abbrev pub LineBy : Book → List ℕ → Bounds → List ℕ → List ℕ → Result ℕ Want → Type 0
 LineBy k line b ws vs (Ok n) = (me : Word) (here : Word → Sig) (there : Word → Word → Sig) (file-there : Word → Bool) (before : List Word) (it : Item) → Agrees (k .knows) (answer me here there file-there before) → ops-of line (b .base) (b .count) ws ≡ item-code it → said-in k line (code-end b) n vs ≡ add silent (of-item me here there file-there before it)
 LineBy k line b ws vs (Err w) = (me : Word) (here : Word → Sig) (there : Word → Word → Sig) (file-there : Word → Bool) (before : List Word) (it : Item) → Agrees (k .knows) (answer me here there file-there before) → ops-of line (b .base) (b .count) ws ≡ item-code it → first-lacking (k .knows) (asked (answer me here there file-there before) (item-code it) start) ≡ some (query-is k line w)
+
 abbrev pub LineSays : (List ℕ → Book) → Bounds → List ℕ → List ℕ → Result ℕ Want → Type 0
 LineSays g b ws vs r = LineBy (g (take (b .base) ws)) (take (b .len) ws) b ws vs r
+
 -- the state after i operations
 pub record Went-on (g : List ℕ → Book) (b : Bounds) (ws : List ℕ) (i : ℕ) (p : Place) (vs : List ℕ) : Type 0 where
   pub kept : take (code-end b) vs ≡ take (code-end b) ws

@@ -43,6 +43,7 @@ pub struct Slots {
 
 // The numbers of faults: another number of arguments; no such field.
 const ANOTHER_NUMBER: u32 = 6;
+
 const NO_FIELD: u32 = 7;
 
 // What was found of the name s, and a value.
@@ -56,12 +57,29 @@ fn tell_value(words: &mut [u32], b: Bounds, p: Place, s: Span, v: Verdict, span:
     value(words, b, q, span, v.ty)
 }
 
-pub fn name<L: Lookup>(look: &L, words: &mut [u32], b: Bounds, p: Place, s: Span) -> Result<Place, Want>
+pub fn name<L: Lookup>(
+    look: &L,
+    words: &mut [u32],
+    b: Bounds,
+    p: Place,
+    s: Span,
+) -> Result<Place, Want>
     requires { ⌜ Ready b p (now words) ⌝ }
     ensures { λ r. ⌜ TurnSays (book (now (look .entry))) b p (now (words .entry)) (now (words .exit)) (λ line. «o-name» («span-of» line s)) r ⌝ }
 {
     if let Some(x) = find(words, b, p, s) {
-        return Ok(tell_value(words, b, p, s, Verdict { ty: x.ty, fault: 0, link: Link::Local(x.span.from) }, s));
+        return Ok(tell_value(
+            words,
+            b,
+            p,
+            s,
+            Verdict {
+                ty: x.ty,
+                fault: 0,
+                link: Link::Local(x.span.from),
+            },
+            s,
+        ));
     }
     let Some(m) = look.here(words, b, s) else {
         return Err(Want::Here(s));
@@ -76,13 +94,29 @@ fn slots_of<L: Lookup>(look: &L, words: &[u32], b: Bounds, m: Meaning, n: u32) -
     ensures { λ r. ⌜ SlotsSay (book (now (look .entry)) (take (b .base) (now (words .entry)))) m n r ⌝ }
 {
     let Meaning::Found(sig) = m else {
-        return Slots { sig: 0, next: 0, fault: 0 };
+        return Slots {
+            sig: 0,
+            next: 0,
+            fault: 0,
+        };
     };
     if !role_fits(Role::Called, look.sort(words, b, sig)) {
-        return Slots { sig: 0, next: 0, fault: 0 };
+        return Slots {
+            sig: 0,
+            next: 0,
+            fault: 0,
+        };
     }
-    let fault = if look.slots(words, b, sig) == n { 0 } else { ANOTHER_NUMBER };
-    Slots { sig: sig.0, next: 1, fault }
+    let fault = if look.slots(words, b, sig) == n {
+        0
+    } else {
+        ANOTHER_NUMBER
+    };
+    Slots {
+        sig: sig.0,
+        next: 1,
+        fault,
+    }
 }
 
 // What was found of the name s, and a call begun.
@@ -94,16 +128,48 @@ fn begin(words: &mut [u32], b: Bounds, p: Place, s: Span, v: Verdict, c: Slots) 
 {
     let q = blame(words, b, p, s, c.fault);
     let r = tell(words, b, q, s, v);
-    push(words, b, r, Frame { ty: v.ty, span: s, sig: c.sig, next: c.next })
+    push(
+        words,
+        b,
+        r,
+        Frame {
+            ty: v.ty,
+            span: s,
+            sig: c.sig,
+            next: c.next,
+        },
+    )
 }
 
-pub fn call<L: Lookup>(look: &L, words: &mut [u32], b: Bounds, p: Place, s: Span, n: u32) -> Result<Place, Want>
+pub fn call<L: Lookup>(
+    look: &L,
+    words: &mut [u32],
+    b: Bounds,
+    p: Place,
+    s: Span,
+    n: u32,
+) -> Result<Place, Want>
     requires { ⌜ Ready b p (now words) ⌝ }
     ensures { λ r. ⌜ TurnSays (book (now (look .entry))) b p (now (words .entry)) (now (words .exit)) (λ line. «o-call» («span-of» line s) n) r ⌝ }
 {
     if let Some(x) = find(words, b, p, s) {
-        let v = Verdict { ty: NONE, fault: MISPLACED, link: Link::Local(x.span.from) };
-        return Ok(begin(words, b, p, s, v, Slots { sig: 0, next: 0, fault: 0 }));
+        let v = Verdict {
+            ty: NONE,
+            fault: MISPLACED,
+            link: Link::Local(x.span.from),
+        };
+        return Ok(begin(
+            words,
+            b,
+            p,
+            s,
+            v,
+            Slots {
+                sig: 0,
+                next: 0,
+                fault: 0,
+            },
+        ));
     }
     let Some(m) = look.here(words, b, s) else {
         return Err(Want::Here(s));
@@ -118,7 +184,11 @@ fn member<L: Lookup>(look: &L, words: &[u32], b: Bounds, m: Meaning, x: Span) ->
     requires { ⌜ Within b (now words) ⌝ }
     ensures { λ r. ⌜ «verdict-said» (book (now (look .entry)) (take (b .base) (now (words .entry)))) («span-of» (take (b .len) (now (words .entry))) x) r ≡ «member-said» («span-of» (take (b .len) (now (words .entry))) x) («meaning-is» (book (now (look .entry)) (take (b .base) (now (words .entry)))) m) ⌝ }
 {
-    let missing = Verdict { ty: NONE, fault: NO_FIELD, link: Link::No };
+    let missing = Verdict {
+        ty: NONE,
+        fault: NO_FIELD,
+        link: Link::No,
+    };
     let Meaning::Found(sig) = m else {
         return missing;
     };
@@ -128,19 +198,37 @@ fn member<L: Lookup>(look: &L, words: &[u32], b: Bounds, m: Meaning, x: Span) ->
     let Some(ty) = look.field(words, b, sig, x) else {
         return missing;
     };
-    Verdict { ty, fault: 0, link: Link::No }
+    Verdict {
+        ty,
+        fault: 0,
+        link: Link::No,
+    }
 }
 
 // What a field of that name is, of something of that type.
-fn field_of<L: Lookup>(look: &L, words: &[u32], b: Bounds, ty: u32, x: Span) -> Result<Verdict, Want>
+fn field_of<L: Lookup>(
+    look: &L,
+    words: &[u32],
+    b: Bounds,
+    ty: u32,
+    x: Span,
+) -> Result<Verdict, Want>
     requires { ⌜ Within b (now words) ⌝ }
     ensures { λ r. ⌜ FieldTurn (book (now (look .entry)) (take (b .base) (now (words .entry)))) (take (b .len) (now (words .entry))) ty («span-of» (take (b .len) (now (words .entry))) x) r ⌝ }
 {
     if ty == NONE {
-        return Ok(Verdict { ty: NONE, fault: 0, link: Link::No });
+        return Ok(Verdict {
+            ty: NONE,
+            fault: 0,
+            link: Link::No,
+        });
     }
     if ty < FIRST {
-        return Ok(Verdict { ty: NONE, fault: NO_FIELD, link: Link::No });
+        return Ok(Verdict {
+            ty: NONE,
+            fault: NO_FIELD,
+            link: Link::No,
+        });
     }
     let of = TypeId(ty - FIRST);
     let Some(m) = look.there(words, b, of) else {
@@ -149,13 +237,29 @@ fn field_of<L: Lookup>(look: &L, words: &[u32], b: Bounds, ty: u32, x: Span) -> 
     Ok(member(look, words, b, m, x))
 }
 
-pub fn field<L: Lookup>(look: &L, words: &mut [u32], b: Bounds, p: Place, x: Span) -> Result<Place, Want>
+pub fn field<L: Lookup>(
+    look: &L,
+    words: &mut [u32],
+    b: Bounds,
+    p: Place,
+    x: Span,
+) -> Result<Place, Want>
     requires { ⌜ Ready b p (now words) ⌝ }
     ensures { λ r. ⌜ TurnSays (book (now (look .entry))) b p (now (words .entry)) (now (words .exit)) (λ line. «o-field» («span-of» line x)) r ⌝ }
 {
     let of = newest(words, b, p);
     match field_of(look, words, b, of.ty, x) {
-        Ok(v) => Ok(tell_value(words, b, below(p), x, v, Span { from: of.span.from, to: x.to })),
+        Ok(v) => Ok(tell_value(
+            words,
+            b,
+            below(p),
+            x,
+            v,
+            Span {
+                from: of.span.from,
+                to: x.to,
+            },
+        )),
         Err(want) => Err(want),
     }
 }

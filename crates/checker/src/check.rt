@@ -75,7 +75,11 @@ fn walk<L: Lookup>(look: &L, words: &mut [u32], b: Bounds) -> Went
     ensures walks { λ r. ⌜ WentSays (book (now (look .entry))) b (now (words .entry)) (now (words .exit)) r ⌝ }
     ensures says { λ r. ⌜ LineSays (book (now (look .entry))) b (now (words .entry)) (now (words .exit)) («told-of» r) ⌝ }
 {
-    let mut p = Place { height: 0, names: 0, events: 0 };
+    let mut p = Place {
+        height: 0,
+        names: 0,
+        events: 0,
+    };
     for i in 0..b.count {
         match turn(look, words, b, p, op_at(words, b.base, i)) {
             Ok(q) => {

@@ -12,7 +12,6 @@ ghost use Rattle.semantics.specs.Check.{fault as fault-of, find as found-in};
 ghost use Rattle.checker.specs.Rows.{Book, means, blamed, «verdict-said», Fits, Within};
 ghost use Rattle.checker.specs.Turns.{Ready, TurnSays};
 ghost use Rattle.checker.specs.Asks.{«file-said», TypeTurn};
-use base::same_word;
 use crate::lookup::BOOL;
 use crate::lookup::Lookup;
 use crate::lookup::NONE;
@@ -32,20 +31,40 @@ use crate::said::blame;
 use crate::said::tell;
 use crate::verdict::Role;
 use crate::verdict::judge;
+use base::same_word;
 use parser::code::Span;
 
 // The numbers of faults: declared before; no such file.
 const DECLARED_BEFORE: u32 = 4;
+
 const NO_FILE: u32 = 9;
 
 // What is found of a file's name.
 fn file_verdict(is_there: bool) -> Verdict
     ensures { λ r. ⌜ ((k : Book) (t : Tok) → «verdict-said» k t r ≡ «file-said» t «is_there») ⌝ }
 {
-    if is_there { Verdict { ty: NONE, fault: 0, link: Link::File } } else { Verdict { ty: NONE, fault: NO_FILE, link: Link::No } }
+    if is_there {
+        Verdict {
+            ty: NONE,
+            fault: 0,
+            link: Link::File,
+        }
+    } else {
+        Verdict {
+            ty: NONE,
+            fault: NO_FILE,
+            link: Link::No,
+        }
+    }
 }
 
-pub fn use_file<L: Lookup>(look: &L, words: &mut [u32], b: Bounds, p: Place, s: Span) -> Result<Place, Want>
+pub fn use_file<L: Lookup>(
+    look: &L,
+    words: &mut [u32],
+    b: Bounds,
+    p: Place,
+    s: Span,
+) -> Result<Place, Want>
     requires { ⌜ Ready b p (now words) ⌝ }
     ensures { λ r. ⌜ TurnSays (book (now (look .entry))) b p (now (words .entry)) (now (words .exit)) (λ line. «o-use» («span-of» line s)) r ⌝ }
 {
@@ -64,7 +83,13 @@ fn again(is_there: bool) -> u32
 }
 
 // A record or def is named.
-pub fn new_name<L: Lookup>(look: &L, words: &mut [u32], b: Bounds, p: Place, s: Span) -> Result<Place, Want>
+pub fn new_name<L: Lookup>(
+    look: &L,
+    words: &mut [u32],
+    b: Bounds,
+    p: Place,
+    s: Span,
+) -> Result<Place, Want>
     requires { ⌜ Ready b p (now words) ⌝ }
     ensures { λ r. ⌜ TurnSays (book (now (look .entry))) b p (now (words .entry)) (now (words .exit)) (λ line. «o-new» («span-of» line s)) r ⌝ }
 {
@@ -87,7 +112,13 @@ fn is_bound(words: &[u32], b: Bounds, p: Place, s: Span) -> bool
 }
 
 // A kind, or a constant of it, is named.
-pub fn constant<L: Lookup>(look: &L, words: &mut [u32], b: Bounds, p: Place, s: Span) -> Result<Place, Want>
+pub fn constant<L: Lookup>(
+    look: &L,
+    words: &mut [u32],
+    b: Bounds,
+    p: Place,
+    s: Span,
+) -> Result<Place, Want>
     requires { ⌜ Ready b p (now words) ⌝ }
     ensures { λ r. ⌜ TurnSays (book (now (look .entry))) b p (now (words .entry)) (now (words .exit)) (λ line. «o-const» («span-of» line s)) r ⌝ }
 {
@@ -107,10 +138,18 @@ fn type_of<L: Lookup>(look: &L, words: &[u32], b: Bounds, s: Span) -> Result<Ver
 {
     let word = word_of(words, b, s);
     if same_word(word, &[110, 117, 109]) {
-        return Ok(Verdict { ty: NUM, fault: 0, link: Link::No });
+        return Ok(Verdict {
+            ty: NUM,
+            fault: 0,
+            link: Link::No,
+        });
     }
     if same_word(word, &[98, 111, 111, 108]) {
-        return Ok(Verdict { ty: BOOL, fault: 0, link: Link::No });
+        return Ok(Verdict {
+            ty: BOOL,
+            fault: 0,
+            link: Link::No,
+        });
     }
     let Some(m) = look.here(words, b, s) else {
         return Err(Want::Here(s));
@@ -119,7 +158,14 @@ fn type_of<L: Lookup>(look: &L, words: &[u32], b: Bounds, s: Span) -> Result<Ver
 }
 
 // A field or a parameter with its type.
-pub fn slot<L: Lookup>(look: &L, words: &mut [u32], b: Bounds, p: Place, x: Span, ty: Span) -> Result<Place, Want>
+pub fn slot<L: Lookup>(
+    look: &L,
+    words: &mut [u32],
+    b: Bounds,
+    p: Place,
+    x: Span,
+    ty: Span,
+) -> Result<Place, Want>
     requires { ⌜ Ready b p (now words) ⌝ }
     ensures { λ r. ⌜ TurnSays (book (now (look .entry))) b p (now (words .entry)) (now (words .exit)) (λ line. «o-slot» (record { name = «span-of» line x; ty = «span-of» line ty })) r ⌝ }
 {
@@ -136,14 +182,30 @@ pub fn slot<L: Lookup>(look: &L, words: &mut [u32], b: Bounds, p: Place, x: Span
 }
 
 // A def's result.
-pub fn result<L: Lookup>(look: &L, words: &mut [u32], b: Bounds, p: Place, s: Span) -> Result<Place, Want>
+pub fn result<L: Lookup>(
+    look: &L,
+    words: &mut [u32],
+    b: Bounds,
+    p: Place,
+    s: Span,
+) -> Result<Place, Want>
     requires { ⌜ Ready b p (now words) ⌝ }
     ensures { λ r. ⌜ TurnSays (book (now (look .entry))) b p (now (words .entry)) (now (words .exit)) (λ line. «o-result» («span-of» line s)) r ⌝ }
 {
     match type_of(look, words, b, s) {
         Ok(v) => {
             let q = tell(words, b, p, s, v);
-            Ok(push(words, b, q, Frame { ty: v.ty, span: s, sig: 0, next: 0 }))
+            Ok(push(
+                words,
+                b,
+                q,
+                Frame {
+                    ty: v.ty,
+                    span: s,
+                    sig: 0,
+                    next: 0,
+                },
+            ))
         }
         Err(want) => Err(want),
     }

@@ -37,8 +37,11 @@ pub enum Sort {
 
 // The words of types: none, num, bool; from there on the lookup's types in their order.
 pub const NONE: u32 = 0;
+
 pub const NUM: u32 = 1;
+
 pub const BOOL: u32 = 2;
+
 pub const FIRST: u32 = 3;
 
 // What has to be known and isn't yet: what a name means here, what a type is, whether there is a file of that name, whether a name is declared before.

@@ -65,8 +65,16 @@ pub fn push(words: &mut [u32], b: Bounds, p: Place, v: Frame) -> Place
     ensures higher { λ r. ⌜ r .height ≡ p .height + 1 ⌝ ∗ ⌜ r .names ≡ p .names ⌝ ∗ ⌜ r .events ≡ p .events ⌝ }
     ensures writes { λ r. ⌜ Writes b p (now (words .entry)) r (now (words .exit)) (λ k line. «with-frame» («frame-is» k v)) ⌝ }
 {
-    put(words, b.base + 20 * b.count + 5 * p.height, &[v.ty, v.span.from, v.span.to, v.sig, v.next]);
-    Place { height: p.height + 1, names: p.names, events: p.events }
+    put(
+        words,
+        b.base + 20 * b.count + 5 * p.height,
+        &[v.ty, v.span.from, v.span.to, v.sig, v.next],
+    );
+    Place {
+        height: p.height + 1,
+        names: p.names,
+        events: p.events,
+    }
 }
 
 // The newest frame, or a blank one where there is none; and the place without it.
@@ -75,17 +83,34 @@ pub fn newest(words: &[u32], b: Bounds, p: Place) -> Frame
     ensures { λ r. ⌜ ((k : Book) (line : List ℕ) → «frame-is» k r ≡ «newest-of» (means k line b p (now (words .entry)) .stack)) ⌝ }
 {
     if p.height == 0 {
-        return Frame { ty: 0, span: Span { from: 0, to: 0 }, sig: 0, next: 0 };
+        return Frame {
+            ty: 0,
+            span: Span { from: 0, to: 0 },
+            sig: 0,
+            next: 0,
+        };
     }
     let i = b.base + 20 * b.count + 5 * (p.height - 1);
-    Frame { ty: words[i], span: Span { from: words[i + 1], to: words[i + 2] }, sig: words[i + 3], next: words[i + 4] }
+    Frame {
+        ty: words[i],
+        span: Span {
+            from: words[i + 1],
+            to: words[i + 2],
+        },
+        sig: words[i + 3],
+        next: words[i + 4],
+    }
 }
 
 pub fn below(p: Place) -> Place
     ensures lower { λ r. ⌜ r .height ≤ p .height ⌝ ∗ ⌜ r .height ≤ p .height - 1 ⌝ ∗ ⌜ r .names ≡ p .names ⌝ ∗ ⌜ r .events ≡ p .events ⌝ }
     ensures under { λ r. ⌜ ((k : Book) (line : List ℕ) (b : Bounds) (ws : List ℕ) → means k line b r ws ≡ «without-frame» (means k line b p ws)) ⌝ }
 {
-    Place { height: p.height.saturating_sub(1), names: p.names, events: p.events }
+    Place {
+        height: p.height.saturating_sub(1),
+        names: p.names,
+        events: p.events,
+    }
 }
 
 // One name more is bound; and the newest one no more.
@@ -95,15 +120,27 @@ pub fn bind(words: &mut [u32], b: Bounds, p: Place, x: Bound) -> Place
     ensures higher { λ r. ⌜ r .height ≡ p .height ⌝ ∗ ⌜ r .names ≡ p .names + 1 ⌝ ∗ ⌜ r .events ≡ p .events ⌝ }
     ensures writes { λ r. ⌜ Writes b p (now (words .entry)) r (now (words .exit)) (λ k line. «with-name» («bound-is» k line x)) ⌝ }
 {
-    put(words, b.base + 17 * b.count + 3 * p.names, &[x.span.from, x.span.to, x.ty]);
-    Place { height: p.height, names: p.names + 1, events: p.events }
+    put(
+        words,
+        b.base + 17 * b.count + 3 * p.names,
+        &[x.span.from, x.span.to, x.ty],
+    );
+    Place {
+        height: p.height,
+        names: p.names + 1,
+        events: p.events,
+    }
 }
 
 pub fn unbind(p: Place) -> Place
     ensures lower { λ r. ⌜ r .height ≡ p .height ⌝ ∗ ⌜ r .names ≤ p .names ⌝ ∗ ⌜ r .events ≡ p .events ⌝ }
     ensures under { λ r. ⌜ ((k : Book) (line : List ℕ) (b : Bounds) (ws : List ℕ) → means k line b r ws ≡ «without-name» (means k line b p ws)) ⌝ }
 {
-    Place { height: p.height, names: p.names.saturating_sub(1), events: p.events }
+    Place {
+        height: p.height,
+        names: p.names.saturating_sub(1),
+        events: p.events,
+    }
 }
 
 // One thing more is said.
@@ -113,8 +150,16 @@ pub fn note(words: &mut [u32], b: Bounds, p: Place, e: Event) -> Place
     ensures higher { λ r. ⌜ r .height ≡ p .height ⌝ ∗ ⌜ r .names ≡ p .names ⌝ ∗ ⌜ r .events ≡ p .events + 1 ⌝ }
     ensures writes { λ r. ⌜ Writes b p (now (words .entry)) r (now (words .exit)) (λ k line. «with-said» («event-is» k line e)) ⌝ }
 {
-    put(words, b.base + 5 * b.count + 4 * p.events, &[e.tag, e.span.from, e.span.to, e.x]);
-    Place { height: p.height, names: p.names, events: p.events + 1 }
+    put(
+        words,
+        b.base + 5 * b.count + 4 * p.events,
+        &[e.tag, e.span.from, e.span.to, e.x],
+    );
+    Place {
+        height: p.height,
+        names: p.names,
+        events: p.events + 1,
+    }
 }
 
 // The word of a part of the line; of one that doesn't lie in it, as much as does.
@@ -133,7 +178,13 @@ fn newest_name(words: &[u32], b: Bounds, n: usize) -> Bound
     ensures { λ r. ⌜ ((k : Book) (line : List ℕ) → «names-in» k line («names-at» b) n (now (words .entry)) ≡ «bound-is» k line r ∷ «names-in» k line («names-at» b) (n - 1) (now (words .entry))) ⌝ }
 {
     let i = b.base + 17 * b.count + 3 * (n - 1);
-    Bound { span: Span { from: words[i], to: words[i + 1] }, ty: words[i + 2] }
+    Bound {
+        span: Span {
+            from: words[i],
+            to: words[i + 1],
+        },
+        ty: words[i + 2],
+    }
 }
 
 // The innermost name that is bound and written like that part of the line.

@@ -36,9 +36,13 @@ pub struct Verdict {
 
 // The tags of what is said.
 const FAULT: u32 = 0;
+
 const TYPE: u32 = 1;
+
 const DECLARED: u32 = 2;
+
 const LOCAL: u32 = 3;
+
 const FILE: u32 = 4;
 
 // A fault of that number, or none where it is 0.
@@ -51,7 +55,16 @@ pub fn blame(words: &mut [u32], b: Bounds, p: Place, span: Span, number: u32) ->
     if number == 0 {
         return p;
     }
-    note(words, b, p, Event { tag: FAULT, span, x: number })
+    note(
+        words,
+        b,
+        p,
+        Event {
+            tag: FAULT,
+            span,
+            x: number,
+        },
+    )
 }
 
 // A link.
@@ -63,9 +76,36 @@ fn note_link(words: &mut [u32], b: Bounds, p: Place, span: Span, to: Link) -> Pl
 {
     match to {
         Link::No => p,
-        Link::Declared(sig) => note(words, b, p, Event { tag: DECLARED, span, x: sig.0 }),
-        Link::Local(at) => note(words, b, p, Event { tag: LOCAL, span, x: at }),
-        Link::File => note(words, b, p, Event { tag: FILE, span, x: 0 }),
+        Link::Declared(sig) => note(
+            words,
+            b,
+            p,
+            Event {
+                tag: DECLARED,
+                span,
+                x: sig.0,
+            },
+        ),
+        Link::Local(at) => note(
+            words,
+            b,
+            p,
+            Event {
+                tag: LOCAL,
+                span,
+                x: at,
+            },
+        ),
+        Link::File => note(
+            words,
+            b,
+            p,
+            Event {
+                tag: FILE,
+                span,
+                x: 0,
+            },
+        ),
     }
 }
 
@@ -90,7 +130,16 @@ fn note_type(words: &mut [u32], b: Bounds, p: Place, span: Span, ty: u32) -> Pla
     if ty == NONE {
         return p;
     }
-    note(words, b, p, Event { tag: TYPE, span, x: ty })
+    note(
+        words,
+        b,
+        p,
+        Event {
+            tag: TYPE,
+            span,
+            x: ty,
+        },
+    )
 }
 
 // A value, and its type noted.
@@ -101,5 +150,15 @@ pub fn value(words: &mut [u32], b: Bounds, p: Place, span: Span, ty: u32) -> Pla
     ensures writes { λ r. ⌜ Writes b p (now (words .entry)) r (now (words .exit)) (λ k line. valued (span .from) (span .to) (typ k ty)) ⌝ }
 {
     let q = note_type(words, b, p, span, ty);
-    push(words, b, q, Frame { ty, span, sig: 0, next: 0 })
+    push(
+        words,
+        b,
+        q,
+        Frame {
+            ty,
+            span,
+            sig: 0,
+            next: 0,
+        },
+    )
 }

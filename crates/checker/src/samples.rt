@@ -107,12 +107,18 @@ pub impl Lookup for Blank as BlankLookup {
 
 #[cfg(test)]
 mod tests {
-    use std::test::{Fail, check_eq};
-    use super::{Blank, BlankLookup, Empty, EmptyLookup};
+    use super::Blank;
+    use super::BlankLookup;
+    use super::Empty;
+    use super::EmptyLookup;
     use crate::check::check;
     use crate::lookup::Want;
     use crate::rows::Bounds;
-    use parser::code::{Op, Span, emit};
+    use parser::code::Op;
+    use parser::code::Span;
+    use parser::code::emit;
+    use std::test::Fail;
+    use std::test::check_eq;
 
     // The line a(b) and its code.
     fn write(words: &mut [u32])
@@ -133,7 +139,15 @@ mod tests {
     fn unknown_names_are_blamed() -> Result<(), Fail> {
         let mut words = [0; 104];
         write(&mut words);
-        match check(&Empty, &mut words, Bounds { len: 4, base: 4, count: 4 }) {
+        match check(
+            &Empty,
+            &mut words,
+            Bounds {
+                len: 4,
+                base: 4,
+                count: 4,
+            },
+        ) {
             Ok(n) => check_eq(n, 2)?,
             Err(_) => check_eq(0, 1)?,
         }
@@ -151,7 +165,15 @@ mod tests {
     fn the_first_name_has_to_be_known() -> Result<(), Fail> {
         let mut words = [0; 104];
         write(&mut words);
-        match check(&Blank, &mut words, Bounds { len: 4, base: 4, count: 4 }) {
+        match check(
+            &Blank,
+            &mut words,
+            Bounds {
+                len: 4,
+                base: 4,
+                count: 4,
+            },
+        ) {
             Err(Want::Here(s)) => check_eq(s.to, 1),
             _ => check_eq(0, 1),
         }

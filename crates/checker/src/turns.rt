@@ -51,7 +51,16 @@ pub fn end(words: &mut [u32], b: Bounds, p: Place, to: u32) -> Place
     ensures { λ r. ⌜ ((k : List ℕ → Book) → Goes k b p (now (words .entry)) r (now (words .exit)) (λ line. «o-end» to)) ⌝ }
 {
     let call = newest(words, b, p);
-    value(words, b, below(p), Span { from: call.span.from, to }, call.ty)
+    value(
+        words,
+        b,
+        below(p),
+        Span {
+            from: call.span.from,
+            to,
+        },
+        call.ty,
+    )
 }
 
 pub fn brackets(words: &mut [u32], b: Bounds, p: Place, s: Span) -> Place
@@ -59,7 +68,17 @@ pub fn brackets(words: &mut [u32], b: Bounds, p: Place, s: Span) -> Place
     ensures { λ r. ⌜ ((k : List ℕ → Book) → Goes k b p (now (words .entry)) r (now (words .exit)) (λ line. «o-par» (s .from) (s .to))) ⌝ }
 {
     let v = newest(words, b, p);
-    push(words, b, below(p), Frame { ty: v.ty, span: s, sig: 0, next: 0 })
+    push(
+        words,
+        b,
+        below(p),
+        Frame {
+            ty: v.ty,
+            span: s,
+            sig: 0,
+            next: 0,
+        },
+    )
 }
 
 // A let's name gets its value.
@@ -77,7 +96,16 @@ pub fn end_let(words: &mut [u32], b: Bounds, p: Place, from: u32) -> Place
     ensures { λ r. ⌜ ((k : List ℕ → Book) → Goes k b p (now (words .entry)) r (now (words .exit)) (λ line. «o-let» from)) ⌝ }
 {
     let v = newest(words, b, p);
-    value(words, b, unbind(below(p)), Span { from, to: v.span.to }, v.ty)
+    value(
+        words,
+        b,
+        unbind(below(p)),
+        Span {
+            from,
+            to: v.span.to,
+        },
+        v.ty,
+    )
 }
 
 pub fn misread(words: &mut [u32], b: Bounds, p: Place, s: Span) -> Place
@@ -97,7 +125,15 @@ pub fn condition<L: Lookup>(look: &L, words: &mut [u32], b: Bounds, p: Place) ->
 }
 
 // What is wrong with two operands where both have to be of one type.
-fn operands<L: Lookup>(look: &L, words: &mut [u32], b: Bounds, p: Place, wanted: u32, x: Frame, y: Frame) -> Place
+fn operands<L: Lookup>(
+    look: &L,
+    words: &mut [u32],
+    b: Bounds,
+    p: Place,
+    wanted: u32,
+    x: Frame,
+    y: Frame,
+) -> Place
     requires fits { ⌜ Fits b p (now words) ⌝ }
     requires less { ⌜ p .events + 1 < 3 * b .count ⌝ }
     ensures few { λ r. ⌜ r .height ≡ p .height ⌝ ∗ ⌜ r .names ≡ p .names ⌝ ∗ ⌜ r .events ≤ p .events + 2 ⌝ }
@@ -138,7 +174,10 @@ pub fn operation<L: Lookup>(look: &L, words: &mut [u32], b: Bounds, p: Place, o:
     let under = below(p);
     let left = newest(words, b, under);
     let rest = below(under);
-    let span = Span { from: left.span.from, to: right.span.to };
+    let span = Span {
+        from: left.span.from,
+        to: right.span.to,
+    };
     match o {
         Operator::Equal => {
             let wrong = clash(look, words, b, left.ty, right.ty);
@@ -164,7 +203,16 @@ pub fn choice<L: Lookup>(look: &L, words: &mut [u32], b: Bounds, p: Place, from:
     let rest = below(under);
     let q = blame(words, b, rest, second.span, wrong);
     let ty = either(first.ty, second.ty);
-    value(words, b, q, Span { from, to: second.span.to }, ty)
+    value(
+        words,
+        b,
+        q,
+        Span {
+            from,
+            to: second.span.to,
+        },
+        ty,
+    )
 }
 
 pub fn argument<L: Lookup>(look: &L, words: &mut [u32], b: Bounds, p: Place) -> Place
@@ -179,7 +227,17 @@ pub fn argument<L: Lookup>(look: &L, words: &mut [u32], b: Bounds, p: Place) -> 
     let next = next_of(look, words, b, call);
     let rest = below(under);
     let q = blame(words, b, rest, v.span, wrong);
-    push(words, b, q, Frame { ty: call.ty, span: call.span, sig: call.sig, next })
+    push(
+        words,
+        b,
+        q,
+        Frame {
+            ty: call.ty,
+            span: call.span,
+            sig: call.sig,
+            next,
+        },
+    )
 }
 
 // The end of a def's body, held against its result.

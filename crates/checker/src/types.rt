@@ -29,7 +29,11 @@ pub fn clash<L: Lookup>(look: &L, words: &[u32], b: Bounds, wanted: u32, is: u32
     if wanted < FIRST || is < FIRST {
         return if wanted == is { 0 } else { ANOTHER };
     }
-    if look.same(words, b, TypeId(wanted - FIRST), TypeId(is - FIRST)) { 0 } else { ANOTHER }
+    if look.same(words, b, TypeId(wanted - FIRST), TypeId(is - FIRST)) {
+        0
+    } else {
+        ANOTHER
+    }
 }
 
 // The first of two types that is known.
@@ -57,5 +61,9 @@ pub fn next_of<L: Lookup>(look: &L, words: &[u32], b: Bounds, v: Frame) -> u32
     if v.next == 0 {
         return 0;
     }
-    if v.next < look.slots(words, b, SigId(v.sig)) { v.next + 1 } else { 0 }
+    if v.next < look.slots(words, b, SigId(v.sig)) {
+        v.next + 1
+    } else {
+        0
+    }
 }

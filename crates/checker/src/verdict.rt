@@ -25,7 +25,9 @@ pub enum Role {
 
 // The numbers of faults: no such name; several such names; this can't stand here.
 const UNKNOWN: u32 = 2;
+
 const SEVERAL: u32 = 3;
+
 pub const MISPLACED: u32 = 8;
 
 pub fn role_fits(role: Role, sort: Sort) -> bool
@@ -44,7 +46,15 @@ fn judge_found<L: Lookup>(look: &L, words: &[u32], b: Bounds, sig: SigId, role: 
 {
     let link = Link::Declared(sig);
     let ty = look.result(words, b, sig);
-    if role_fits(role, look.sort(words, b, sig)) { Verdict { ty, fault: 0, link } } else { Verdict { ty: NONE, fault: MISPLACED, link } }
+    if role_fits(role, look.sort(words, b, sig)) {
+        Verdict { ty, fault: 0, link }
+    } else {
+        Verdict {
+            ty: NONE,
+            fault: MISPLACED,
+            link,
+        }
+    }
 }
 
 pub fn judge<L: Lookup>(look: &L, words: &[u32], b: Bounds, m: Meaning, role: Role) -> Verdict
@@ -53,7 +63,15 @@ pub fn judge<L: Lookup>(look: &L, words: &[u32], b: Bounds, m: Meaning, role: Ro
 {
     match m {
         Meaning::Found(sig) => judge_found(look, words, b, sig, role),
-        Meaning::Unknown => Verdict { ty: NONE, fault: UNKNOWN, link: Link::No },
-        Meaning::Several => Verdict { ty: NONE, fault: SEVERAL, link: Link::No },
+        Meaning::Unknown => Verdict {
+            ty: NONE,
+            fault: UNKNOWN,
+            link: Link::No,
+        },
+        Meaning::Several => Verdict {
+            ty: NONE,
+            fault: SEVERAL,
+            link: Link::No,
+        },
     }
 }

@@ -22,6 +22,7 @@ differs xs ys n = go (same xs ys) (same-decides xs ys .0)
     go : (b : Bool) → (b ≡ true → xs ≡ ys) → b ≡ false
     go true f = elim (n (f refl)) [ ]
     go false f = refl
+
 pub puts-new : (f t : List ℕ) (p : Texts) → find-file p f ≡ none → puts-file f t p ≡ p ++ (record { name = f; text = t } ∷ [])
 puts-new f t [] h = refl
 puts-new f t (x ∷ xs) h = go (same (x .name) f) h (puts-new f t xs)
@@ -29,15 +30,18 @@ puts-new f t (x ∷ xs) h = go (same (x .name) f) h (puts-new f t xs)
     go : (b : Bool) → pick b (some x) (find-file xs f) ≡ none → (find-file xs f ≡ none → puts-file f t xs ≡ xs ++ (record { name = f; text = t } ∷ [])) → pick b (record { name = f; text = t } ∷ xs) (x ∷ puts-file f t xs) ≡ x ∷ (xs ++ (record { name = f; text = t } ∷ []))
     go true e r = false-true (cc)
     go false e r = ap (λ ys. x ∷ ys) (r e)
+
 -- k is the first file of that name
 abbrev pub First : List ℕ → Texts → ℕ → Type 0
 First f [] k = ⊥
 First f (x ∷ xs) zero = x .name ≡ f
 First f (x ∷ xs) (suc k) = (x .name ≡ f → ⊥) × First f xs k
+
 pub puts-set : (f t : List ℕ) (p : Texts) (k : ℕ) → First f p k → puts-file f t p ≡ set p k (record { name = f; text = t })
 puts-set f t [] k h = elim h [ ]
 puts-set f t (x ∷ xs) zero h = ap (λ b. pick b (record { name = f; text = t } ∷ xs) (x ∷ puts-file f t xs)) (same-decides (x .name) f .1 h)
 puts-set f t (x ∷ xs) (suc k) h = ap (λ b. pick b (record { name = f; text = t } ∷ xs) (x ∷ puts-file f t xs)) (differs (x .name) f (h .0)) ∙ ap (λ ys. x ∷ ys) (puts-set f t xs k (h .1))
+
 pub finds-none : (f : List ℕ) (p : Texts) → find-file p f ≡ none → drops-file f p ≡ p
 finds-none f [] h = refl
 finds-none f (x ∷ xs) h = go (same (x .name) f) h (finds-none f xs)

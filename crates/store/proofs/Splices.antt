@@ -23,11 +23,14 @@ pub record Writing (nb : ℕ) (m ns o : List ℕ) (k i : ℕ) : Type 0 where
   pub some-lines : 0 < i
   pub within : i ≤ length ns
   pub so-far : take k o ≡ text-of nb m (take i ns)
+
 pub write-begins : (nb : ℕ) (m ns o₀ o : List ℕ) (k : ℕ) → 0 < length ns → (k ≤ length o) × (take k o ≡ take 0 o₀ ++ bytes nb m (getD ns 0 0)) → Writing nb m ns o k 1
 write-begins nb m [] o₀ o k h e = let f : ⊥ = omega arith in elim f [ ]
 write-begins nb m (n ∷ ns) o₀ o k h e = record { in-out = e .0; some-lines = omega arith; within = omega arith; so-far = e .1 ∙ sym (append-nil (bytes nb m n)) }
+
 pub write-more : (nb : ℕ) (m ns o o₁ o₂ : List ℕ) (k i a b : ℕ) → i < length ns → Writing nb m ns o k i → take a o₁ ≡ take k o ++ (10 ∷ []) → (b ≤ length o₂) × (take b o₂ ≡ take a o₁ ++ bytes nb m (getD ns i 0)) → Writing nb m ns o₂ b (i + 1)
 write-more nb m ns o o₁ o₂ k i a b h w e f = record { in-out = f .0; some-lines = omega arith; within = omega arith; so-far = f .1 ∙ ap (λ z. z ++ bytes nb m (getD ns i 0)) (e ∙ ap (λ z. z ++ (10 ∷ [])) (w .so-far)) ∙ sym (ap (text-of nb m) (take-more ns i 0 h) ∙ ap joined (map-push (bytes nb m) (take i ns) (getD ns i 0)) ∙ joined-push (map (bytes nb m) (take i ns)) (bytes nb m (getD ns i 0)) (omega (arith, length-map (take i ns) (bytes nb m), length-take-le i ns (w .within), w .some-lines))) }
+
 pub write-ends : (nb : ℕ) (m ns o : List ℕ) (k i : ℕ) → length ns ≤ i → Writing nb m ns o k i → (k ≤ length o) × (take k o ≡ text-of nb m ns)
 write-ends nb m ns o k i h w = (w .in-out, w .so-far ∙ ap (text-of nb m) (take-all i ns h))
 

@@ -63,7 +63,13 @@ pub fn edit(
 }
 
 // The text that numbers of lines stand for, at the front of a row.
-fn write_text(words: &[u32], buckets: usize, cap: usize, ns: &[u32], out: &mut [u32]) -> Option<usize>
+fn write_text(
+    words: &[u32],
+    buckets: usize,
+    cap: usize,
+    ns: &[u32],
+    out: &mut [u32],
+) -> Option<usize>
     requires { ⌜ Sound buckets cap (now words) ⌝ ∗ ⌜ Every (Live buckets (now words)) (now ns) ⌝ }
     ensures { λ r. ⌜ FrontSays (text-of buckets (now (words .entry)) (now (ns .entry))) (now (out .exit)) r ⌝ }
 {

@@ -12,7 +12,13 @@ use crate::row::lay;
 use crate::row::mark;
 
 // The file of a name, if it is open: its place in the table.
-pub fn file_of(files: &[u32], words: &[u32], buckets: usize, cap: usize, name: &[u32]) -> Option<usize>
+pub fn file_of(
+    files: &[u32],
+    words: &[u32],
+    buckets: usize,
+    cap: usize,
+    name: &[u32],
+) -> Option<usize>
     requires { ⌜ Fits buckets cap (now files) (now words) ⌝ }
     ensures { λ r. ⌜ FileOfSays buckets (now (files .entry)) (now (words .entry)) (now (name .entry)) r ⌝ }
 {

@@ -36,13 +36,7 @@ pub fn open(
 }
 
 // A file is no more; whether it was open.
-pub fn close(
-    files: &mut [u32],
-    words: &[u32],
-    buckets: usize,
-    cap: usize,
-    name: &[u32],
-) -> bool
+pub fn close(files: &mut [u32], words: &[u32], buckets: usize, cap: usize, name: &[u32]) -> bool
     requires { ⌜ Fits buckets cap (now files) (now words) ⌝ }
     ensures filed { λ _. ⌜ Fits buckets cap (now (files .exit)) (now (words .entry)) ⌝ }
     ensures says { λ r. ⌜ CloseSays (now (name .entry)) (texts buckets (now (files .entry)) (now (words .entry))) (texts buckets (now (files .exit)) (now (words .entry))) r ⌝ }

@@ -64,7 +64,15 @@ fn show_line<W: Write>(row: &mut [u32], len: usize, out: &mut W) -> Result<(), A
     if !enough(row, len, count) {
         return Err("a line is too long".into());
     }
-    match check(&World, row, Bounds { len, base: len, count }) {
+    match check(
+        &World,
+        row,
+        Bounds {
+            len,
+            base: len,
+            count,
+        },
+    ) {
         Ok(events) => show_said(&row[len + 5 * count..], events, out)?,
         Err(_) => return Err("not all is known".into()),
     }

@@ -4,8 +4,11 @@ use std::io::Write;
 
 // What was said, by its tag: a fault, a type, a link to what is declared, to a name bound in the line, to a file.
 const FAULT: u32 = 0;
+
 const TYPE: u32 = 1;
+
 const DECLARED: u32 = 2;
+
 const LOCAL: u32 = 3;
 
 fn type_name(word: u32) -> &'static str {

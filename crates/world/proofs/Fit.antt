@@ -60,34 +60,49 @@ either false c e d f p q = q
 
 fit-base : Fit (card1 Def 1 1 3 0 0) d-base
 fit-base = record { result-fits = refl; row-fits = (refl, (refl, (refl, tt))) }
+
 fit-flag : Fit (card1 Def 2 0 0 0 0) d-flag
 fit-flag = record { result-fits = refl; row-fits = (refl, (refl, (refl, tt))) }
+
 fit-own : Fit (card1 Kind 5 0 0 0 0) d-own
 fit-own = record { result-fits = refl; row-fits = (refl, (refl, (refl, tt))) }
+
 fit-Mine : Fit (card1 Const 5 0 0 0 0) d-Mine
 fit-Mine = record { result-fits = refl; row-fits = (refl, (refl, (refl, tt))) }
+
 fit-odd : Fit (card1 Rec 6 3 0 1 2) d-odd
 fit-odd = record { result-fits = refl; row-fits = (refl, (refl, (refl, tt))) }
+
 fit-lost : Fit (card1 Def 0 1 0 0 0) d-lost
 fit-lost = record { result-fits = refl; row-fits = (refl, (refl, (refl, tt))) }
+
 fit-add : Fit (card1 Def 1 2 1 1 0) d-add
 fit-add = record { result-fits = refl; row-fits = (refl, (refl, (refl, tt))) }
+
 fit-port : Fit (card1 Kind 3 0 0 0 0) d-port
 fit-port = record { result-fits = refl; row-fits = (refl, (refl, (refl, tt))) }
+
 fit-Vik : Fit (card1 Const 3 0 0 0 0) d-Vik
 fit-Vik = record { result-fits = refl; row-fits = (refl, (refl, (refl, tt))) }
+
 fit-ticket : Fit (card1 Rec 4 3 3 3 1) d-ticket
 fit-ticket = record { result-fits = refl; row-fits = (refl, (refl, (refl, tt))) }
+
 fit-far : Fit (card1 Kind 7 0 0 0 0) d-far
 fit-far = record { result-fits = refl; row-fits = (refl, (refl, (refl, tt))) }
+
 fit-Oslo : Fit (card1 Const 7 0 0 0 0) d-Oslo
 fit-Oslo = record { result-fits = refl; row-fits = (refl, (refl, (refl, tt))) }
+
 fit-hold : Fit (card1 Rec 8 2 9 8 0) d-hold
 fit-hold = record { result-fits = refl; row-fits = (refl, (refl, (refl, tt))) }
+
 fit-k : Fit (card1 Def 1 0 0 0 0) d-k
 fit-k = record { result-fits = refl; row-fits = (refl, (refl, (refl, tt))) }
+
 fit-Lone : Fit (card1 Const 0 0 0 0 0) d-Lone
 fit-Lone = record { result-fits = refl; row-fits = (refl, (refl, (refl, tt))) }
+
 fit-s : Fit (card1 Kind 9 0 0 0 0) d-s
 fit-s = record { result-fits = refl; row-fits = (refl, (refl, (refl, tt))) }
 

@@ -25,11 +25,17 @@ pub struct Card {
 
 // The words of the types: port and ticket of ports, port2 and odd of x, port2 and hold of more, s of deep.
 pub const PORT: u32 = 3;
+
 pub const TICKET: u32 = 4;
+
 pub const OWN: u32 = 5;
+
 pub const ODD: u32 = 6;
+
 pub const FAR: u32 = 7;
+
 pub const HOLD: u32 = 8;
+
 pub const DEEP: u32 = 9;
 
 // In order: base, flag, port2, Mine, odd, lost and add of x; port, Vik and ticket of ports; port2, Oslo, hold, k and Lone of more; s of deep.
@@ -37,22 +43,134 @@ pub fn card_of(sig: u32) -> Card
     ensures { λ r. ⌜ r ≡ «card-of» sig ⌝ }
 {
     match sig {
-        0 => Card { sort: Sort::Def, result: NUM, slots: 1, a: PORT, b: NONE, c: NONE },
-        1 => Card { sort: Sort::Def, result: BOOL, slots: 0, a: NONE, b: NONE, c: NONE },
-        2 => Card { sort: Sort::Kind, result: OWN, slots: 0, a: NONE, b: NONE, c: NONE },
-        3 => Card { sort: Sort::Const, result: OWN, slots: 0, a: NONE, b: NONE, c: NONE },
-        4 => Card { sort: Sort::Rec, result: ODD, slots: 3, a: NONE, b: NUM, c: BOOL },
-        5 => Card { sort: Sort::Def, result: NONE, slots: 1, a: NONE, b: NONE, c: NONE },
-        6 => Card { sort: Sort::Def, result: NUM, slots: 2, a: NUM, b: NUM, c: NONE },
-        7 => Card { sort: Sort::Kind, result: PORT, slots: 0, a: NONE, b: NONE, c: NONE },
-        8 => Card { sort: Sort::Const, result: PORT, slots: 0, a: NONE, b: NONE, c: NONE },
-        9 => Card { sort: Sort::Rec, result: TICKET, slots: 3, a: PORT, b: PORT, c: NUM },
-        10 => Card { sort: Sort::Kind, result: FAR, slots: 0, a: NONE, b: NONE, c: NONE },
-        11 => Card { sort: Sort::Const, result: FAR, slots: 0, a: NONE, b: NONE, c: NONE },
-        12 => Card { sort: Sort::Rec, result: HOLD, slots: 2, a: DEEP, b: HOLD, c: NONE },
-        13 => Card { sort: Sort::Def, result: NUM, slots: 0, a: NONE, b: NONE, c: NONE },
-        14 => Card { sort: Sort::Const, result: NONE, slots: 0, a: NONE, b: NONE, c: NONE },
-        _ => Card { sort: Sort::Kind, result: DEEP, slots: 0, a: NONE, b: NONE, c: NONE },
+        0 => Card {
+            sort: Sort::Def,
+            result: NUM,
+            slots: 1,
+            a: PORT,
+            b: NONE,
+            c: NONE,
+        },
+        1 => Card {
+            sort: Sort::Def,
+            result: BOOL,
+            slots: 0,
+            a: NONE,
+            b: NONE,
+            c: NONE,
+        },
+        2 => Card {
+            sort: Sort::Kind,
+            result: OWN,
+            slots: 0,
+            a: NONE,
+            b: NONE,
+            c: NONE,
+        },
+        3 => Card {
+            sort: Sort::Const,
+            result: OWN,
+            slots: 0,
+            a: NONE,
+            b: NONE,
+            c: NONE,
+        },
+        4 => Card {
+            sort: Sort::Rec,
+            result: ODD,
+            slots: 3,
+            a: NONE,
+            b: NUM,
+            c: BOOL,
+        },
+        5 => Card {
+            sort: Sort::Def,
+            result: NONE,
+            slots: 1,
+            a: NONE,
+            b: NONE,
+            c: NONE,
+        },
+        6 => Card {
+            sort: Sort::Def,
+            result: NUM,
+            slots: 2,
+            a: NUM,
+            b: NUM,
+            c: NONE,
+        },
+        7 => Card {
+            sort: Sort::Kind,
+            result: PORT,
+            slots: 0,
+            a: NONE,
+            b: NONE,
+            c: NONE,
+        },
+        8 => Card {
+            sort: Sort::Const,
+            result: PORT,
+            slots: 0,
+            a: NONE,
+            b: NONE,
+            c: NONE,
+        },
+        9 => Card {
+            sort: Sort::Rec,
+            result: TICKET,
+            slots: 3,
+            a: PORT,
+            b: PORT,
+            c: NUM,
+        },
+        10 => Card {
+            sort: Sort::Kind,
+            result: FAR,
+            slots: 0,
+            a: NONE,
+            b: NONE,
+            c: NONE,
+        },
+        11 => Card {
+            sort: Sort::Const,
+            result: FAR,
+            slots: 0,
+            a: NONE,
+            b: NONE,
+            c: NONE,
+        },
+        12 => Card {
+            sort: Sort::Rec,
+            result: HOLD,
+            slots: 2,
+            a: DEEP,
+            b: HOLD,
+            c: NONE,
+        },
+        13 => Card {
+            sort: Sort::Def,
+            result: NUM,
+            slots: 0,
+            a: NONE,
+            b: NONE,
+            c: NONE,
+        },
+        14 => Card {
+            sort: Sort::Const,
+            result: NONE,
+            slots: 0,
+            a: NONE,
+            b: NONE,
+            c: NONE,
+        },
+        _ => Card {
+            sort: Sort::Kind,
+            result: DEEP,
+            slots: 0,
+            a: NONE,
+            b: NONE,
+            c: NONE,
+        },
     }
 }
 

@@ -6,15 +6,15 @@ ghost use Prim.Native.Nat.{ℕ};
 ghost use Rattle.base.specs.Base.{pick};
 ghost use Rattle.std.specs.declared.option.Option.the-variants.{Some};
 ghost use Rattle.world.specs.World.{«own-is», «used-is», «here-is», «file-is», «found-in», «sig-of», «card-of», «row-of», «d-odd», «d-add», «d-ticket», «d-hold»};
+use crate::cards::DEEP;
+use crate::cards::HOLD;
+use crate::cards::PORT;
 use base::same_word;
 use checker::lookup::BOOL;
 use checker::lookup::Meaning;
 use checker::lookup::NONE;
 use checker::lookup::NUM;
 use checker::lookup::SigId;
-use crate::cards::DEEP;
-use crate::cards::HOLD;
-use crate::cards::PORT;
 
 // What x itself declares.
 pub fn own_name(word: &[u32]) -> Option<u32>
@@ -80,25 +80,49 @@ fn or_if(b: bool, ty: u32, rest: Option<u32>) -> Option<u32>
 fn in_odd(w: &[u32]) -> Option<u32>
     ensures { λ r. ⌜ r ≡ «found-in» («d-odd» .slots) (now (w .entry)) («row-of» («card-of» 4)) ⌝ }
 {
-    or_if(same_word(&[98, 97, 100], w), NONE, or_if(same_word(&[110], w), NUM, or_if(same_word(&[110], w), BOOL, None)))
+    or_if(
+        same_word(&[98, 97, 100], w),
+        NONE,
+        or_if(
+            same_word(&[110], w),
+            NUM,
+            or_if(same_word(&[110], w), BOOL, None),
+        ),
+    )
 }
 
 fn in_add(w: &[u32]) -> Option<u32>
     ensures { λ r. ⌜ r ≡ «found-in» («d-add» .slots) (now (w .entry)) («row-of» («card-of» 6)) ⌝ }
 {
-    or_if(same_word(&[97], w), NUM, or_if(same_word(&[98], w), NUM, None))
+    or_if(
+        same_word(&[97], w),
+        NUM,
+        or_if(same_word(&[98], w), NUM, None),
+    )
 }
 
 fn in_ticket(w: &[u32]) -> Option<u32>
     ensures { λ r. ⌜ r ≡ «found-in» («d-ticket» .slots) (now (w .entry)) («row-of» («card-of» 9)) ⌝ }
 {
-    or_if(same_word(&[115, 116, 97, 114, 116], w), PORT, or_if(same_word(&[101, 110, 100], w), PORT, or_if(same_word(&[97, 103, 101], w), NUM, None)))
+    or_if(
+        same_word(&[115, 116, 97, 114, 116], w),
+        PORT,
+        or_if(
+            same_word(&[101, 110, 100], w),
+            PORT,
+            or_if(same_word(&[97, 103, 101], w), NUM, None),
+        ),
+    )
 }
 
 fn in_hold(w: &[u32]) -> Option<u32>
     ensures { λ r. ⌜ r ≡ «found-in» («d-hold» .slots) (now (w .entry)) («row-of» («card-of» 12)) ⌝ }
 {
-    or_if(same_word(&[118], w), DEEP, or_if(same_word(&[98, 97, 99, 107], w), HOLD, None))
+    or_if(
+        same_word(&[118], w),
+        DEEP,
+        or_if(same_word(&[98, 97, 99, 107], w), HOLD, None),
+    )
 }
 
 pub fn field_word(sig: u32, w: &[u32]) -> Option<u32>

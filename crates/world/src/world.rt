@@ -1,13 +1,6 @@
 // The small world as a lookup that knows all: a line is looked at as if it stood at the end of the file x.
 ghost use denote.Ref.{now};
 ghost use Rattle.world.specs.World.{«small-world»};
-use checker::lookup::Lookup;
-use checker::lookup::Meaning;
-use checker::lookup::SigId;
-use checker::lookup::Sort;
-use checker::lookup::TypeId;
-use checker::rows::Bounds;
-use checker::rows::word_of;
 use crate::cards::card_of;
 use crate::cards::slot_word;
 use crate::cards::tag;
@@ -16,6 +9,13 @@ use crate::names::field_word;
 use crate::names::is_file;
 use crate::names::name_here;
 use crate::names::own_name;
+use checker::lookup::Lookup;
+use checker::lookup::Meaning;
+use checker::lookup::SigId;
+use checker::lookup::Sort;
+use checker::lookup::TypeId;
+use checker::rows::Bounds;
+use checker::rows::word_of;
 use parser::code::Span;
 
 pub struct World;

@@ -21,10 +21,17 @@ returns-in-Some g c =
     let line = take (b .len) ws in
     let σ = means K line b (c .args .p) ws in
     let t = span-of line (c .args .s) in
-    let e = c .in-Some .ensures tt K in
-    (k-yes false, asks-bound (K .knows) (σ .bound) (t .w) _ e, record
-    { before = c .begin .ensures .writes .before; frame-more = omega (arith, c .begin .ensures .few); name-more = omega (arith, c .begin .ensures .few); said-more = omega (arith, c .begin .ensures .few)
-    ; becomes = c .begin .ensures .writes .becomes K line ∙ ap (λ f. begins t (c .args .n) (opt f (callee t s-unknown) (λ x. calls-it none (said none (fault (t .from) (t .to) 8 ∷ []) [] (link-local t x ∷ [])))) (σ .stack) (σ .bound) (σ .out)) (sym e) })
+    let e = c .in-Some .ensures tt K in (
+      k-yes false,
+      asks-bound (K .knows) (σ .bound) (t .w) _ e,
+      record {
+        before = c .begin .ensures .writes .before;
+        frame-more = omega (arith, c .begin .ensures .few);
+        name-more = omega (arith, c .begin .ensures .few);
+        said-more = omega (arith, c .begin .ensures .few);
+        becomes = c .begin .ensures .writes .becomes K line ∙ ap (λ f. begins t (c .args .n) (opt f (callee t s-unknown) (λ x. calls-it none (said none (fault (t .from) (t .to) 8 ∷ []) [] (link-local t x ∷ [])))) (σ .stack) (σ .bound) (σ .out)) (sym e);
+      },
+    )
 
 pub returns : need.returns
 returns g c =
@@ -35,9 +42,16 @@ returns g c =
     let σ = means K line b (c .args .p) ws in
     let t = span-of line (c .args .s) in
     let S = meaning-is K (c .in-Some-here .m) in
-    let e = c .in-rest .ensures tt K in
-    (k-sig S, asks-free (K .knows) (σ .bound) (t .w) e ∙ c .in-Some-here .ensures tt, record
-    { before = c .begin-2 .ensures .writes .before; frame-more = omega (arith, c .begin-2 .ensures .few); name-more = omega (arith, c .begin-2 .ensures .few); said-more = omega (arith, c .begin-2 .ensures .few)
-    ; becomes = c .begin-2 .ensures .writes .becomes K line
-        ∙ begun-is K t (c .judge-v .result) (c .slots-of-c .result) σ (c .args .n) (callee t S) (c .judge-v .ensures t) (c .slots-of-c .ensures .come t) (c .slots-of-c .ensures .counted t)
-        ∙ ap (λ f. begins t (c .args .n) (opt f (callee t S) (λ x. calls-it none (said none (fault (t .from) (t .to) 8 ∷ []) [] (link-local t x ∷ [])))) (σ .stack) (σ .bound) (σ .out)) (sym e) })
+    let e = c .in-rest .ensures tt K in (
+      k-sig S,
+      asks-free (K .knows) (σ .bound) (t .w) e ∙ c .in-Some-here .ensures tt,
+      record {
+        before = c .begin-2 .ensures .writes .before;
+        frame-more = omega (arith, c .begin-2 .ensures .few);
+        name-more = omega (arith, c .begin-2 .ensures .few);
+        said-more = omega (arith, c .begin-2 .ensures .few);
+        becomes = c .begin-2 .ensures .writes .becomes K line
+            ∙ begun-is K t (c .judge-v .result) (c .slots-of-c .result) σ (c .args .n) (callee t S) (c .judge-v .ensures t) (c .slots-of-c .ensures .come t) (c .slots-of-c .ensures .counted t)
+            ∙ ap (λ f. begins t (c .args .n) (opt f (callee t S) (λ x. calls-it none (said none (fault (t .from) (t .to) 8 ∷ []) [] (link-local t x ∷ [])))) (σ .stack) (σ .bound) (σ .out)) (sym e);
+      },
+    )

@@ -18,12 +18,19 @@ returns-in-Ok g c =
     let e = c .newest-of .ensures K line in
     let u = c .below .ensures .under K line b ws in
     let h = c .in-Ok .ensures tt in
-    let a = c .newest-of .result .span .from in
-    (h .0, sym (ap (λ f. fetch (K .knows) (asks-type (f .ty))) e) ∙ h .1, record
-    { before = c .tell-value .ensures .writes .before; frame-more = omega (arith, c .tell-value .ensures .few, c .below .ensures .lower); name-more = omega (arith, c .tell-value .ensures .few, c .below .ensures .lower); said-more = omega (arith, c .tell-value .ensures .few, c .below .ensures .lower)
-    ; becomes = c .tell-value .ensures .writes .becomes K line
-        ∙ (λ i. says a (t .to) (typed a (t .to) (h .2 i)) (u i .stack) (u i .bound) (u i .out))
-        ∙ (λ i. says (e i .from) (t .to) (typed (e i .from) (t .to) (of-record (λ f n. the-sig (h .0)) t (e i .ty))) (pop (σ .stack)) (σ .bound) (σ .out)) })
+    let a = c .newest-of .result .span .from in (
+      h .0,
+      sym (ap (λ f. fetch (K .knows) (asks-type (f .ty))) e) ∙ h .1,
+      record {
+        before = c .tell-value .ensures .writes .before;
+        frame-more = omega (arith, c .tell-value .ensures .few, c .below .ensures .lower);
+        name-more = omega (arith, c .tell-value .ensures .few, c .below .ensures .lower);
+        said-more = omega (arith, c .tell-value .ensures .few, c .below .ensures .lower);
+        becomes = c .tell-value .ensures .writes .becomes K line
+            ∙ (λ i. says a (t .to) (typed a (t .to) (h .2 i)) (u i .stack) (u i .bound) (u i .out))
+            ∙ (λ i. says (e i .from) (t .to) (typed (e i .from) (t .to) (of-record (λ f n. the-sig (h .0)) t (e i .ty))) (pop (σ .stack)) (σ .bound) (σ .out));
+      },
+    )
 
 pub returns-in-Err : need.returns-in-Err
 returns-in-Err g c =

@@ -20,10 +20,17 @@ returns-in-Some g c =
     let line = take (b .len) ws in
     let σ = means K line b (c .args .p) ws in
     let t = span-of line (c .args .s) in
-    let e = c .in-Some .ensures tt K in
-    (k-yes false, asks-bound (K .knows) (σ .bound) (t .w) _ e, record
-    { before = c .tell-value .ensures .writes .before; frame-more = omega (arith, c .tell-value .ensures .few); name-more = omega (arith, c .tell-value .ensures .few); said-more = omega (arith, c .tell-value .ensures .few)
-    ; becomes = c .tell-value .ensures .writes .becomes K line ∙ ap (λ f. says (t .from) (t .to) (typed (t .from) (t .to) (opt f (name-alone t s-unknown) (λ x. said (x .ty) [] [] (link-local t x ∷ [])))) (σ .stack) (σ .bound) (σ .out)) (sym e) })
+    let e = c .in-Some .ensures tt K in (
+      k-yes false,
+      asks-bound (K .knows) (σ .bound) (t .w) _ e,
+      record {
+        before = c .tell-value .ensures .writes .before;
+        frame-more = omega (arith, c .tell-value .ensures .few);
+        name-more = omega (arith, c .tell-value .ensures .few);
+        said-more = omega (arith, c .tell-value .ensures .few);
+        becomes = c .tell-value .ensures .writes .becomes K line ∙ ap (λ f. says (t .from) (t .to) (typed (t .from) (t .to) (opt f (name-alone t s-unknown) (λ x. said (x .ty) [] [] (link-local t x ∷ [])))) (σ .stack) (σ .bound) (σ .out)) (sym e);
+      },
+    )
 
 pub returns : need.returns
 returns g c =
@@ -34,9 +41,16 @@ returns g c =
     let σ = means K line b (c .args .p) ws in
     let t = span-of line (c .args .s) in
     let S = meaning-is K (c .in-Some-here .m) in
-    let e = c .in-rest .ensures tt K in
-    (k-sig S, asks-free (K .knows) (σ .bound) (t .w) e ∙ c .in-Some-here .ensures tt, record
-    { before = c .tell-value-2 .ensures .writes .before; frame-more = omega (arith, c .tell-value-2 .ensures .few); name-more = omega (arith, c .tell-value-2 .ensures .few); said-more = omega (arith, c .tell-value-2 .ensures .few)
-    ; becomes = c .tell-value-2 .ensures .writes .becomes K line
-        ∙ ap (λ s. says (t .from) (t .to) (typed (t .from) (t .to) s) (σ .stack) (σ .bound) (σ .out)) (c .judge-v .ensures t)
-        ∙ ap (λ f. says (t .from) (t .to) (typed (t .from) (t .to) (opt f (name-alone t S) (λ x. said (x .ty) [] [] (link-local t x ∷ [])))) (σ .stack) (σ .bound) (σ .out)) (sym e) })
+    let e = c .in-rest .ensures tt K in (
+      k-sig S,
+      asks-free (K .knows) (σ .bound) (t .w) e ∙ c .in-Some-here .ensures tt,
+      record {
+        before = c .tell-value-2 .ensures .writes .before;
+        frame-more = omega (arith, c .tell-value-2 .ensures .few);
+        name-more = omega (arith, c .tell-value-2 .ensures .few);
+        said-more = omega (arith, c .tell-value-2 .ensures .few);
+        becomes = c .tell-value-2 .ensures .writes .becomes K line
+            ∙ ap (λ s. says (t .from) (t .to) (typed (t .from) (t .to) s) (σ .stack) (σ .bound) (σ .out)) (c .judge-v .ensures t)
+            ∙ ap (λ f. says (t .from) (t .to) (typed (t .from) (t .to) (opt f (name-alone t S) (λ x. said (x .ty) [] [] (link-local t x ∷ [])))) (σ .stack) (σ .bound) (σ .out)) (sym e);
+      },
+    )

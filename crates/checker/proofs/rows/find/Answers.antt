@@ -19,13 +19,16 @@ returns-then-same-word c = λ k.
     c .loop-n .inv .1 k ∙ find-hit x _ (names-in k line (names-at (c .args .b)) (c .loop-n .n - 1) ws) w (c .newest-name-x .ensures k line) (e ∙ c .if-same-word .taken)
 
 pub loop-n-again : need.loop-n-again
-loop-n-again c = (omega (arith, c .loop-n .inv .0), λ k.
-    let ws = c .args .words .now in
-    let line = take (c .args .b .len) ws in
-    let w = span-of line (c .args .name) .w in
-    let x = bound-is k line (c .newest-name-x .result) in
-    let e : same (x .name .w) w ≡ c .same-word .result = sym (c .same-word .ensures ∙ (λ i. same (c .word-of .ensures i) (c .word-of-in-loop-n .ensures i))) in
-    c .loop-n .inv .1 k ∙ find-miss x _ (names-in k line (names-at (c .args .b)) (c .loop-n .n - 1) ws) w (c .newest-name-x .ensures k line) (e ∙ c .if-same-word .left))
+loop-n-again c = (
+  omega (arith, c .loop-n .inv .0),
+  λ k.
+      let ws = c .args .words .now in
+      let line = take (c .args .b .len) ws in
+      let w = span-of line (c .args .name) .w in
+      let x = bound-is k line (c .newest-name-x .result) in
+      let e : same (x .name .w) w ≡ c .same-word .result = sym (c .same-word .ensures ∙ (λ i. same (c .word-of .ensures i) (c .word-of-in-loop-n .ensures i))) in
+      c .loop-n .inv .1 k ∙ find-miss x _ (names-in k line (names-at (c .args .b)) (c .loop-n .n - 1) ws) w (c .newest-name-x .ensures k line) (e ∙ c .if-same-word .left),
+)
 
 pub returns : need.returns
 returns c = λ k.

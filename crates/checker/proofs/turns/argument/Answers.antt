@@ -22,9 +22,14 @@ returns g c = λ z.
     let w = sym (c .clash-wrong .ensures (V .span .from) (V .span .to)) in
     let s = c .wanted-by-wanted .ensures in
     let n = c .next-of-next .ensures in
-    record { before = c .push .ensures .writes .before ∙ c .blame-q .ensures .writes .before; frame-more = omega (arith, c .push .ensures .higher, c .blame-q .ensures .few, c .below-rest .ensures .lower, c .below-under .ensures .lower); name-more = omega (arith, c .push .ensures .higher, c .blame-q .ensures .few, c .below-rest .ensures .lower, c .below-under .ensures .lower); said-more = omega (arith, c .push .ensures .higher, c .blame-q .ensures .few, c .below-rest .ensures .lower, c .below-under .ensures .lower);
+    record {
+      before = c .push .ensures .writes .before ∙ c .blame-q .ensures .writes .before;
+      frame-more = omega (arith, c .push .ensures .higher, c .blame-q .ensures .few, c .below-rest .ensures .lower, c .below-under .ensures .lower);
+      name-more = omega (arith, c .push .ensures .higher, c .blame-q .ensures .few, c .below-rest .ensures .lower, c .below-under .ensures .lower);
+      said-more = omega (arith, c .push .ensures .higher, c .blame-q .ensures .few, c .below-rest .ensures .lower, c .below-under .ensures .lower);
       becomes = c .push .ensures .writes .becomes K line
-        ∙ ap (with-frame (frame-is K (frame-words (C .ty) (C .span .from) (C .span .to) (C .sig) (c .next-of-next .result)))) (c .blame-q .ensures .writes .becomes K line)
-        ∙ (λ i. with-frame (record { ty = typ K (C .ty); from = C .span .from; to = C .span .to; slots = n i }) (with-said (tells (w i)) (r i)))
-        ∙ (λ i. with-frame (record { ty = typ K (C .ty); from = C .span .from; to = C .span .to; slots = n 1 }) (with-said (tells (of-slot (s i) (V .span .from) (V .span .to) (typ K (V .ty)))) (without-frame (without-frame σ))))
-        ∙ (λ i. with-frame (record { ty = k i .ty; from = k i .from; to = k i .to; slots = pop (k i .slots) }) (with-said (tells (of-slot (first-slot (k i .slots)) (v i .from) (v i .to) (v i .ty))) (without-frame (without-frame σ)))) }
+          ∙ ap (with-frame (frame-is K (frame-words (C .ty) (C .span .from) (C .span .to) (C .sig) (c .next-of-next .result)))) (c .blame-q .ensures .writes .becomes K line)
+          ∙ (λ i. with-frame (record { ty = typ K (C .ty); from = C .span .from; to = C .span .to; slots = n i }) (with-said (tells (w i)) (r i)))
+          ∙ (λ i. with-frame (record { ty = typ K (C .ty); from = C .span .from; to = C .span .to; slots = n 1 }) (with-said (tells (of-slot (s i) (V .span .from) (V .span .to) (typ K (V .ty)))) (without-frame (without-frame σ))))
+          ∙ (λ i. with-frame (record { ty = k i .ty; from = k i .from; to = k i .to; slots = pop (k i .slots) }) (with-said (tells (of-slot (first-slot (k i .slots)) (v i .from) (v i .to) (v i .ty))) (without-frame (without-frame σ))));
+    }

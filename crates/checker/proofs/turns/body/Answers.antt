@@ -18,5 +18,10 @@ returns g c = λ z.
     let v = c .newest-v .ensures K line in
     let k = c .newest-result .ensures K line ∙ ap (λ τ. top (τ .stack)) u in
     let w = sym (c .clash-wrong .ensures (c .newest-v .result .span .from) (c .newest-v .result .span .to)) in
-    record { before = c .blame .ensures .writes .before; frame-more = omega arith; name-more = omega arith; said-more = omega arith;
-      becomes = c .blame .ensures .writes .becomes K line ∙ (λ i. with-said (tells (w i)) (r i)) ∙ (λ i. with-said (tells (of-slot (k i .ty) (v i .from) (v i .to) (v i .ty))) (without-frame (without-frame σ))) }
+    record {
+      before = c .blame .ensures .writes .before;
+      frame-more = omega arith;
+      name-more = omega arith;
+      said-more = omega arith;
+      becomes = c .blame .ensures .writes .becomes K line ∙ (λ i. with-said (tells (w i)) (r i)) ∙ (λ i. with-said (tells (of-slot (k i .ty) (v i .from) (v i .to) (v i .ty))) (without-frame (without-frame σ)));
+    }

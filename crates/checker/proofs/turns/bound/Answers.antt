@@ -12,5 +12,10 @@ returns c = λ k z.
     let line = take (c .args .b .len) (c .args .words .now) in
     let e = c .newest-v .ensures K line in
     let u = c .below .ensures .under K line (c .args .b) (c .args .words .now) in
-    record { before = c .bind .ensures .writes .before; frame-more = omega arith; name-more = omega arith; said-more = omega arith;
-      becomes = c .bind .ensures .writes .becomes K line ∙ (λ i. with-name (local-of (span-of line (c .args .s)) (e i .ty)) (u i)) }
+    record {
+      before = c .bind .ensures .writes .before;
+      frame-more = omega arith;
+      name-more = omega arith;
+      said-more = omega arith;
+      becomes = c .bind .ensures .writes .becomes K line ∙ (λ i. with-name (local-of (span-of line (c .args .s)) (e i .ty)) (u i));
+    }

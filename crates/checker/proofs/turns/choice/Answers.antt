@@ -24,12 +24,17 @@ returns g c = λ z.
     let Y = c .newest-second .result in
     let X = c .newest-first .result in
     let n = c .args .from in
-    let w = sym (c .clash-wrong .ensures (Y .span .from) (Y .span .to) ) in
+    let w = sym (c .clash-wrong .ensures (Y .span .from) (Y .span .to)) in
     let t = c .either-ty .ensures K in
-    record { before = c .value .ensures .writes .before ∙ c .blame-q .ensures .writes .before; frame-more = omega (arith, c .value .ensures .few, c .blame-q .ensures .few, c .below-rest .ensures .lower, c .below-under .ensures .lower); name-more = omega (arith, c .value .ensures .few, c .blame-q .ensures .few, c .below-rest .ensures .lower, c .below-under .ensures .lower); said-more = omega (arith, c .value .ensures .few, c .blame-q .ensures .few, c .below-rest .ensures .lower, c .below-under .ensures .lower);
+    record {
+      before = c .value .ensures .writes .before ∙ c .blame-q .ensures .writes .before;
+      frame-more = omega (arith, c .value .ensures .few, c .blame-q .ensures .few, c .below-rest .ensures .lower, c .below-under .ensures .lower);
+      name-more = omega (arith, c .value .ensures .few, c .blame-q .ensures .few, c .below-rest .ensures .lower, c .below-under .ensures .lower);
+      said-more = omega (arith, c .value .ensures .few, c .blame-q .ensures .few, c .below-rest .ensures .lower, c .below-under .ensures .lower);
       becomes = c .value .ensures .writes .becomes K line
-        ∙ ap (valued n (Y .span .to) (typ K (c .either-ty .result))) (c .blame-q .ensures .writes .becomes K line)
-        ∙ (λ i. valued n (Y .span .to) (t i) (with-said (tells (w i)) (r i)))
-        ∙ said-valued n (Y .span .to) (or-else (typ K (X .ty)) (typ K (Y .ty))) none (of-slot (typ K (X .ty)) (Y .span .from) (Y .span .to) (typ K (Y .ty))) [] (without-frame (without-frame σ))
-        ∙ ap (λ fs. says n (Y .span .to) (typed n (Y .span .to) (said (or-else (typ K (X .ty)) (typ K (Y .ty))) fs [] [])) (pop (pop (σ .stack))) (σ .bound) (σ .out)) (slot-opt (typ K (X .ty)) (Y .span .from) (Y .span .to) (typ K (Y .ty)))
-        ∙ (λ i. says n (y i .to) (typed n (y i .to) (said (or-else (x i .ty) (y i .ty)) (opt (x i .ty) [] (λ v. wants v (y i .from) (y i .to) (y i .ty))) [] [])) (pop (pop (σ .stack))) (σ .bound) (σ .out)) }
+          ∙ ap (valued n (Y .span .to) (typ K (c .either-ty .result))) (c .blame-q .ensures .writes .becomes K line)
+          ∙ (λ i. valued n (Y .span .to) (t i) (with-said (tells (w i)) (r i)))
+          ∙ said-valued n (Y .span .to) (or-else (typ K (X .ty)) (typ K (Y .ty))) none (of-slot (typ K (X .ty)) (Y .span .from) (Y .span .to) (typ K (Y .ty))) [] (without-frame (without-frame σ))
+          ∙ ap (λ fs. says n (Y .span .to) (typed n (Y .span .to) (said (or-else (typ K (X .ty)) (typ K (Y .ty))) fs [] [])) (pop (pop (σ .stack))) (σ .bound) (σ .out)) (slot-opt (typ K (X .ty)) (Y .span .from) (Y .span .to) (typ K (Y .ty)))
+          ∙ (λ i. says n (y i .to) (typed n (y i .to) (said (or-else (x i .ty) (y i .ty)) (opt (x i .ty) [] (λ v. wants v (y i .from) (y i .to) (y i .ty))) [] [])) (pop (pop (σ .stack))) (σ .bound) (σ .out));
+    }

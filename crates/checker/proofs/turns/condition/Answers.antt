@@ -14,5 +14,10 @@ returns g c = λ z.
     let e = c .newest-v .ensures K line in
     let u = c .below .ensures .under K line (c .args .b) (c .args .words .now) in
     let w = sym (c .clash-wrong .ensures (c .newest-v .result .span .from) (c .newest-v .result .span .to)) in
-    record { before = c .blame .ensures .writes .before; frame-more = omega arith; name-more = omega arith; said-more = omega arith;
-      becomes = c .blame .ensures .writes .becomes K line ∙ (λ i. with-said (tells (w i)) (u i)) ∙ (λ i. with-said (tells (wants t-bool (e i .from) (e i .to) (e i .ty))) (u 1)) }
+    record {
+      before = c .blame .ensures .writes .before;
+      frame-more = omega arith;
+      name-more = omega arith;
+      said-more = omega arith;
+      becomes = c .blame .ensures .writes .becomes K line ∙ (λ i. with-said (tells (w i)) (u i)) ∙ (λ i. with-said (tells (wants t-bool (e i .from) (e i .to) (e i .ty))) (u 1));
+    }

@@ -15,7 +15,10 @@ returns g c =
     let y = c .args .y .span in
     let v = c .clash-first .ensures (x .from) (x .to) in
     let w = c .clash-second .ensures (y .from) (y .to) in
-    record { few = (omega arith, (omega arith, omega arith)); before = c .blame .ensures .writes .before ∙ c .blame-q .ensures .writes .before;
+    record {
+      few = (omega arith, (omega arith, omega arith));
+      before = c .blame .ensures .writes .before ∙ c .blame-q .ensures .writes .before;
       becomes = λ line. c .blame .ensures .writes .becomes K line ∙ ap (with-said (tells (blamed (c .clash-second .result) (y .from) (y .to)))) (c .blame-q .ensures .writes .becomes K line)
-        ∙ tells-tells (blamed (c .clash-first .result) (x .from) (x .to)) (blamed (c .clash-second .result) (y .from) (y .to)) (means K line (c .args .b) (c .args .p) ws)
-        ∙ (λ i. with-said (tells (sym v i ++ sym w i)) (means K line (c .args .b) (c .args .p) ws)) }
+          ∙ tells-tells (blamed (c .clash-first .result) (x .from) (x .to)) (blamed (c .clash-second .result) (y .from) (y .to)) (means K line (c .args .b) (c .args .p) ws)
+          ∙ (λ i. with-said (tells (sym v i ++ sym w i)) (means K line (c .args .b) (c .args .p) ws));
+    }

@@ -29,17 +29,18 @@ returns-in-Equal g c = λ z.
     let Y = c .newest-right .result in
     let X = c .newest-left .result in
     let w = sym (c .clash-wrong .ensures (Y .span .from) (Y .span .to)) in
-    subst (λ o. Steps K line b (c .args .p) ws (c .value .result) (c .value .last .words) z (o-op (operator o))) (sym (c .in-Equal .is)) (record
-    { before = c .value .ensures .writes .before ∙ c .blame-q .ensures .writes .before
-    ; frame-more = omega (arith, c .value .ensures .few, c .blame-q .ensures .few, c .below-rest .ensures .lower, c .below-under .ensures .lower)
-    ; name-more = omega (arith, c .value .ensures .few, c .blame-q .ensures .few, c .below-rest .ensures .lower, c .below-under .ensures .lower)
-    ; said-more = omega (arith, c .value .ensures .few, c .blame-q .ensures .few, c .below-rest .ensures .lower, c .below-under .ensures .lower)
-    ; becomes = c .value .ensures .writes .becomes K line
-        ∙ ap (valued (X .span .from) (Y .span .to) (some t-bool)) (c .blame-q .ensures .writes .becomes K line)
-        ∙ (λ i. valued (X .span .from) (Y .span .to) (some t-bool) (with-said (tells (w i)) (r i)))
-        ∙ said-valued (X .span .from) (Y .span .to) (some t-bool) none (of-slot (typ K (X .ty)) (Y .span .from) (Y .span .to) (typ K (Y .ty))) [] (without-frame (without-frame σ))
-        ∙ ap (λ fs. says (X .span .from) (Y .span .to) (typed (X .span .from) (Y .span .to) (said (some t-bool) fs [] [])) (pop (pop (σ .stack))) (σ .bound) (σ .out)) (slot-opt (typ K (X .ty)) (Y .span .from) (Y .span .to) (typ K (Y .ty)))
-        ∙ (λ i. says (x i .from) (y i .to) (typed (x i .from) (y i .to) (said (some t-bool) (opt (x i .ty) [] (λ v. wants v (y i .from) (y i .to) (y i .ty))) [] [])) (pop (pop (σ .stack))) (σ .bound) (σ .out)) })
+    subst (λ o. Steps K line b (c .args .p) ws (c .value .result) (c .value .last .words) z (o-op (operator o))) (sym (c .in-Equal .is)) (record {
+      before = c .value .ensures .writes .before ∙ c .blame-q .ensures .writes .before;
+      frame-more = omega (arith, c .value .ensures .few, c .blame-q .ensures .few, c .below-rest .ensures .lower, c .below-under .ensures .lower);
+      name-more = omega (arith, c .value .ensures .few, c .blame-q .ensures .few, c .below-rest .ensures .lower, c .below-under .ensures .lower);
+      said-more = omega (arith, c .value .ensures .few, c .blame-q .ensures .few, c .below-rest .ensures .lower, c .below-under .ensures .lower);
+      becomes = c .value .ensures .writes .becomes K line
+          ∙ ap (valued (X .span .from) (Y .span .to) (some t-bool)) (c .blame-q .ensures .writes .becomes K line)
+          ∙ (λ i. valued (X .span .from) (Y .span .to) (some t-bool) (with-said (tells (w i)) (r i)))
+          ∙ said-valued (X .span .from) (Y .span .to) (some t-bool) none (of-slot (typ K (X .ty)) (Y .span .from) (Y .span .to) (typ K (Y .ty))) [] (without-frame (without-frame σ))
+          ∙ ap (λ fs. says (X .span .from) (Y .span .to) (typed (X .span .from) (Y .span .to) (said (some t-bool) fs [] [])) (pop (pop (σ .stack))) (σ .bound) (σ .out)) (slot-opt (typ K (X .ty)) (Y .span .from) (Y .span .to) (typ K (Y .ty)))
+          ∙ (λ i. says (x i .from) (y i .to) (typed (x i .from) (y i .to) (said (some t-bool) (opt (x i .ty) [] (λ v. wants v (y i .from) (y i .to) (y i .ty))) [] [])) (pop (pop (σ .stack))) (σ .bound) (σ .out));
+    })
 
 pub returns-in-rest : need.returns-in-rest
 returns-in-rest g c = λ z.
@@ -58,14 +59,15 @@ returns-in-rest g c = λ z.
     let t = c .result-type .ensures K in
     let wd = c .operand-type .ensures in
     let fs : ℕ → List Fault = λ w. of-slot (typ K w) (X .span .from) (X .span .to) (typ K (X .ty)) ++ of-slot (typ K w) (Y .span .from) (Y .span .to) (typ K (Y .ty)) in
-    record
-    { before = c .value-in-rest .ensures .writes .before ∙ c .operands-q .ensures .before
-    ; frame-more = omega (arith, c .value-in-rest .ensures .few, c .operands-q .ensures .few, c .below-rest .ensures .lower, c .below-under .ensures .lower)
-    ; name-more = omega (arith, c .value-in-rest .ensures .few, c .operands-q .ensures .few, c .below-rest .ensures .lower, c .below-under .ensures .lower)
-    ; said-more = omega (arith, c .value-in-rest .ensures .few, c .operands-q .ensures .few, c .below-rest .ensures .lower, c .below-under .ensures .lower)
-    ; becomes = c .value-in-rest .ensures .writes .becomes K line
-        ∙ ap (valued (X .span .from) (Y .span .to) (typ K (c .result-type .result))) (c .operands-q .ensures .becomes line)
-        ∙ (λ i. valued (X .span .from) (Y .span .to) (t i) (with-said (tells (fs (wd i))) (r i)))
-        ∙ said-valued (X .span .from) (Y .span .to) (some (op-type (operator o))) none (fs (operand-word (operator o))) [] (without-frame (without-frame σ))
-        ∙ (λ i. says (x i .from) (y i .to) (typed (x i .from) (y i .to) (said (some (op-type (operator o))) (of-slot (typ K (operand-word (operator o))) (x i .from) (x i .to) (x i .ty) ++ of-slot (typ K (operand-word (operator o))) (y i .from) (y i .to) (y i .ty)) [] [])) (pop (pop (σ .stack))) (σ .bound) (σ .out))
-        ∙ ap (λ l. says (top (pop (σ .stack)) .from) (top (σ .stack) .to) (typed (top (pop (σ .stack)) .from) (top (σ .stack) .to) (said (some (op-type (operator o))) l [] [])) (pop (pop (σ .stack))) (σ .bound) (σ .out)) (operands-are K o (top (pop (σ .stack))) (top (σ .stack)) (c .in-rest .not-Equal)) }
+    record {
+      before = c .value-in-rest .ensures .writes .before ∙ c .operands-q .ensures .before;
+      frame-more = omega (arith, c .value-in-rest .ensures .few, c .operands-q .ensures .few, c .below-rest .ensures .lower, c .below-under .ensures .lower);
+      name-more = omega (arith, c .value-in-rest .ensures .few, c .operands-q .ensures .few, c .below-rest .ensures .lower, c .below-under .ensures .lower);
+      said-more = omega (arith, c .value-in-rest .ensures .few, c .operands-q .ensures .few, c .below-rest .ensures .lower, c .below-under .ensures .lower);
+      becomes = c .value-in-rest .ensures .writes .becomes K line
+          ∙ ap (valued (X .span .from) (Y .span .to) (typ K (c .result-type .result))) (c .operands-q .ensures .becomes line)
+          ∙ (λ i. valued (X .span .from) (Y .span .to) (t i) (with-said (tells (fs (wd i))) (r i)))
+          ∙ said-valued (X .span .from) (Y .span .to) (some (op-type (operator o))) none (fs (operand-word (operator o))) [] (without-frame (without-frame σ))
+          ∙ (λ i. says (x i .from) (y i .to) (typed (x i .from) (y i .to) (said (some (op-type (operator o))) (of-slot (typ K (operand-word (operator o))) (x i .from) (x i .to) (x i .ty) ++ of-slot (typ K (operand-word (operator o))) (y i .from) (y i .to) (y i .ty)) [] [])) (pop (pop (σ .stack))) (σ .bound) (σ .out))
+          ∙ ap (λ l. says (top (pop (σ .stack)) .from) (top (σ .stack) .to) (typed (top (pop (σ .stack)) .from) (top (σ .stack) .to) (said (some (op-type (operator o))) l [] [])) (pop (pop (σ .stack))) (σ .bound) (σ .out)) (operands-are K o (top (pop (σ .stack))) (top (σ .stack)) (c .in-rest .not-Equal));
+    }
