@@ -1,10 +1,11 @@
 -- What checking a line's code promises.
 use mathlib.Core.Path.{_≡_}
-use mathlib.Core.Bool.{Bool}
+use mathlib.Core.Bool.{Bool, true, false}
+use mathlib.Core.Logic.{_⊎_}
 use mathlib.Core.List.{List}
 use mathlib.Core.Option.{some}
-use Prim.Native.Nat.{ℕ, _+_, _*_, _≤_}
-use lib.ListN.{take, drop}
+use Prim.Native.Nat.{ℕ, _+_, _*_, _≤_, _<_}
+use lib.ListN.{length, take, drop}
 use Rattle.std.specs.declared.result.Result.{Result}
 use Rattle.std.specs.declared.result.Result.the-variants.{Ok, Err}
 use Rattle.parser.specs.Rows.{ops, ops-of}
@@ -17,6 +18,8 @@ use Rattle.semantics.specs.Walk.{tries, start, need, ends, Agrees, answer, add,
 use Rattle.checker.specs.declared.lookup.Want.{Want}
 use Rattle.checker.specs.declared.rows.Bounds.{Bounds}
 use Rattle.checker.specs.declared.rows.Place.{Place}
+use Rattle.checker.specs.declared.check.Stop.{Stop}
+use Rattle.checker.specs.declared.check.Stop.the-variants.{Needs as NeedsOf, NoRoom}
 use Rattle.checker.specs.declared.check.Went.{Went}
 use Rattle.checker.specs.declared.check.Went.the-variants.{Ends, Needs}
 use Rattle.checker.specs.Rows.{Book, means, said-in, code-end, query-is}
@@ -46,6 +49,21 @@ LineBy k line b ws vs (Err w) = (me : Word) (here : Word → Sig) (there : Word 
 
 abbrev pub LineSays : (List ℕ → Book) → Bounds → List ℕ → List ℕ → Result ℕ Want → Type 0
 LineSays g b ws vs r = LineBy (g (take (b .base) ws)) (take (b .len) ws) b ws vs r
+
+-- the words that are enough
+abbrev pub enough : Bounds → ℕ
+enough b = b .base + 25 * b .count
+
+abbrev pub RoomSays : ℕ → Bounds → Bool → Type 0
+RoomSays n b true = (b .len ≤ b .base) × (enough b ≤ n)
+RoomSays n b false = (b .base < b .len) ⊎ (n < enough b)
+
+-- the whole: what was said, and how much at the most; what has to be known first; or that the line goes beyond base or fewer than 25
+-- words for each operation were lent from base on
+abbrev pub CheckSays : (List ℕ → Book) → Bounds → List ℕ → List ℕ → Result ℕ Stop → Type 0
+CheckSays g b ws vs (Ok n) = (n ≤ 3 * b .count) × LineSays g b ws vs (Ok n)
+CheckSays g b ws vs (Err (NeedsOf w)) = LineSays g b ws vs (Err w)
+CheckSays g b ws vs (Err NoRoom) = (b .base < b .len) ⊎ (length ws < enough b)
 
 -- the state after i operations
 pub record Went-on (g : List ℕ → Book) (b : Bounds) (ws : List ℕ) (i : ℕ) (p : Place) (vs : List ℕ) : Type 0 where

@@ -6,7 +6,7 @@ ghost use lib.ListN.{length, take};
 ghost use Rattle.parser.specs.Rows.{«op-is»};
 ghost use Rattle.checker.specs.Rows.{«code-end»};
 ghost use Rattle.checker.specs.Turns.{Ready, TurnSays};
-ghost use Rattle.checker.specs.Whole.{WentSays, «told-of», Few, LineSays};
+ghost use Rattle.checker.specs.Whole.{WentSays, «told-of», LineSays, RoomSays, CheckSays};
 use crate::calls::call;
 use crate::calls::field;
 use crate::calls::name;
@@ -38,6 +38,13 @@ use parser::code::op_at;
 enum Went {
     Ends(Place),
     Needs(Want),
+}
+
+// Why it stopped: something has to be known first; or too few words were lent.
+#[derive(Clone, Copy)]
+pub enum Stop {
+    Needs(Want),
+    NoRoom,
 }
 
 fn turn<L: Lookup>(look: &L, words: &mut [u32], b: Bounds, p: Place, op: Op) -> Result<Place, Want>
@@ -94,17 +101,24 @@ fn walk<L: Lookup>(look: &L, words: &mut [u32], b: Bounds) -> Went
     Went::Ends(p)
 }
 
-// Checks a line that lies in the words with its code. What is said comes to stand behind the code, so many things as are given back;
-// what lies before that, and the code, stay as they were. Or it gives back what has to be known first.
-pub fn check<L: Lookup>(look: &L, words: &mut [u32], b: Bounds) -> Result<usize, Want>
-    requires line { ⌜ b .len ≤ b .base ⌝ }
-    requires room { ⌜ b .base + 25 * b .count ≤ length (now words) ⌝ }
-    ensures kept { λ _. ⌜ take («code-end» b) (now (words .exit)) ≡ take («code-end» b) (now (words .entry)) ⌝ }
-    ensures few { λ r. ⌜ Few b r ⌝ }
-    ensures says { λ r. ⌜ LineSays (book (now (look .entry))) b (now (words .entry)) (now (words .exit)) r ⌝ }
+// Whether there are words enough: 25 for each operation, the code's five among them, behind a base that isn't inside the line.
+fn has_room(words: usize, b: Bounds) -> bool
+    ensures { λ r. ⌜ RoomSays words b r ⌝ }
 {
+    b.len <= b.base && b.base <= words && b.count <= (words - b.base) / 25
+}
+
+// Checks a line that lies in the words with its code. What is said comes to stand behind the code, so many things as are given back;
+// what lies before that, and the code, stay as they were. Or it gives back why it stopped.
+pub fn check<L: Lookup>(look: &L, words: &mut [u32], b: Bounds) -> Result<usize, Stop>
+    ensures kept { λ _. ⌜ take («code-end» b) (now (words .exit)) ≡ take («code-end» b) (now (words .entry)) ⌝ }
+    ensures says { λ r. ⌜ CheckSays (book (now (look .entry))) b (now (words .entry)) (now (words .exit)) r ⌝ }
+{
+    if !has_room(words.len(), b) {
+        return Err(Stop::NoRoom);
+    }
     match walk(look, words, b) {
         Went::Ends(p) => Ok(p.events),
-        Went::Needs(want) => Err(want),
+        Went::Needs(want) => Err(Stop::Needs(want)),
     }
 }

@@ -111,6 +111,7 @@ mod tests {
     use super::BlankLookup;
     use super::Empty;
     use super::EmptyLookup;
+    use crate::check::Stop;
     use crate::check::check;
     use crate::lookup::Want;
     use crate::rows::Bounds;
@@ -174,7 +175,7 @@ mod tests {
                 count: 4,
             },
         ) {
-            Err(Want::Here(s)) => check_eq(s.to, 1),
+            Err(Stop::Needs(Want::Here(s))) => check_eq(s.to, 1),
             _ => check_eq(0, 1),
         }
     }
