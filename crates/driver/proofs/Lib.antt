@@ -1,0 +1,4 @@
+-- Words written into a row, and what stands in it then: Words. The keys asked and the row of answers: Asked. The memo in the whole row: Memos.
+pub mod Words
+pub mod Memos
+pub mod Asked

@@ -1,0 +1,3 @@
+// The engine's loop in one lent row of words, for any rules and inputs.
+mod stack;
+mod within;
