@@ -5,7 +5,7 @@ use Prim.Native.Nat.{ℕ, zero, suc, _+_, _-_, _*_, _≤_, _<_}
 use native.Mathlib.Omega.{arith}
 use lib.ListN.{length, getD, take, drop, set, length-set, length-drop}
 use lib.Seq.{paste}
-use Rattle.std.proofs.shelf.Lists.{drop-more, drop-set, drop-set-lt, drop-take, take-set, take-at, take-take, take-append-drop, length-take-le, drop-drop}
+use Rattle.std.proofs.shelf.Lists.{drop-more, drop-set, drop-set-lt, drop-take, take-set, take-at, take-take, take-append-drop, length-take-le, drop-drop, drop-at}
 use Rattle.memo.specs.Record.{deep, puts}
 use Rattle.memo.proofs.Puts.{length-puts, take-puts, drop-puts}
 use Rattle.engine.specs.declared.key.Key.{Key}
@@ -59,6 +59,22 @@ added ws r n h =
       above = deep-set ws r n;
     }
 
+-- what is behind words that were put over others
+pub drop-past : (t : ℕ) (xs ws : List ℕ) (j : ℕ) → t + length xs ≤ j → t + length xs ≤ length ws → drop j (puts t xs ws) ≡ drop j ws
+drop-past t xs ws j g h =
+    let vs = puts t xs ws in
+    let n = t + length xs in
+    let k = j - n in
+    let a : j ≡ t + (length xs + k) = omega arith in
+    let b : n + k ≡ j = omega arith in
+    ap (λ i. drop i vs) a ∙ sym (drop-drop (length xs + k) t vs) ∙ ap (drop (length xs + k)) (drop-puts t xs ws h) ∙ sym (drop-drop k (length xs) (xs ++ drop n ws)) ∙
+    ap (drop k) (drop-at xs (drop n ws) (length xs) refl) ∙ drop-drop k n ws ∙ ap (λ i. drop i ws) b
+
+pub deep-past : (t : ℕ) (xs ws : List ℕ) (f : ℕ) → t + length xs + f ≤ length ws → deep f (puts t xs ws) ≡ deep f ws
+deep-past t xs ws f h =
+    let long = length-puts t xs ws (omega arith) in
+    ap (λ m. drop (m - f) (puts t xs ws)) long ∙ drop-past t xs ws (length ws - f) (omega arith) (omega arith)
+
 -- words put over others from a place on
 pub record Placed (t : ℕ) (xs ws vs : List ℕ) : Type 0 where
   pub is : take (length xs) (drop t vs) ≡ xs
@@ -67,29 +83,11 @@ pub record Placed (t : ℕ) (xs ws vs : List ℕ) : Type 0 where
 
 pub placed : (t : ℕ) (xs ws vs : List ℕ) → vs ≡ puts t xs ws → t + length xs ≤ length ws → Placed t xs ws vs
 placed t xs ws vs e h =
-    let n = t + length xs in
-    let d = drop-puts t xs ws h in
-    let long = length-puts t xs ws h in
     record {
-      is = ap (λ l. take (length xs) (drop t l)) e ∙ ap (take (length xs)) d ∙ take-at xs (drop n ws) (length xs) refl;
+      is = ap (λ l. take (length xs) (drop t l)) e ∙ ap (take (length xs)) (drop-puts t xs ws h) ∙ take-at xs (drop (t + length xs) ws) (length xs) refl;
       below = ap (take t) e ∙ take-puts t xs ws t (omega arith) h;
-      above = λ f x.
-        let k = length ws - f - n in
-        let m : length (puts t xs ws) - f ≡ n + k = omega arith in
-        let m2 : n + k ≡ length ws - f = omega arith in
-        ap (deep f) e ∙ ap (λ j. drop j (puts t xs ws)) m ∙ behind t xs ws k h ∙ ap (λ j. drop j ws) m2;
+      above = λ f x. ap (deep f) e ∙ deep-past t xs ws f x;
     }
-  where
-    behind : (t : ℕ) (xs ws : List ℕ) (k : ℕ) → t + length xs ≤ length ws → drop (t + length xs + k) (puts t xs ws) ≡ drop (t + length xs + k) ws
-    behind t xs ws k h =
-        let vs = puts t xs ws in
-        let a : t + length xs + k ≡ t + (length xs + k) = omega arith in
-        ap (λ j. drop j vs) a ∙ sym (drop-drop (length xs + k) t vs) ∙ ap (drop (length xs + k)) (drop-puts t xs ws h) ∙ sym (drop-drop k (length xs) (xs ++ drop (t + length xs) ws)) ∙
-        ap (drop k) (past xs (drop (t + length xs) ws)) ∙ drop-drop k (t + length xs) ws
-      where
-        past : (xs ys : List ℕ) → drop (length xs) (xs ++ ys) ≡ ys
-        past [] ys = refl
-        past (x ∷ xs) ys = past xs ys
 
 -- n words from p on copied to t
 pub pasted : (ws vs : List ℕ) (p t n m : ℕ) → m ≡ n → vs ≡ paste ws t (drop p ws) m → p + n ≤ length ws → vs ≡ puts t (take n (drop p ws)) ws

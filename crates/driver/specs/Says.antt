@@ -7,9 +7,9 @@ use lib.ListN.{length, take, drop}
 use Rattle.std.specs.declared.option.Option.{Option as Perhaps}
 use Rattle.std.specs.declared.option.Option.the-variants.{Some, None}
 use Rattle.base.specs.Base.{same}
-use Rattle.engine.specs.Engine.{Ans, Got}
-use Rattle.memo.specs.Log.{entry-at}
-use Rattle.memo.specs.Says.{Looks}
+use Rattle.engine.specs.Engine.{Ans, Got, Entry}
+use Rattle.memo.specs.Log.{Fits, entry-at}
+use Rattle.memo.specs.Says.{Looks, Keeps, StoreSays}
 use Rattle.engine.specs.declared.key.Key.{Key}
 use Rattle.memo.specs.Record.{deep}
 use Rattle.driver.specs.Rows.{key-words}
@@ -36,3 +36,11 @@ CopySays a t end vs None = end < t + length a
 pub record CompareSays (ms : List ℕ) (d i : ℕ) (a : Ans) (r : Bool) (next : ℕ) : Type 0 where
   pub is : (g : Got) (gs : List Got) → drop i (entry-at ms d .gots) ≡ g ∷ gs → (r ≡ same a (g .ans)) × (drop (i + 1) (entry-at ms d .gots) ≡ gs)
   pub looks : Looks ms d (i + 1) next
+
+-- an entry stored in the memo, or not, by too little room: what is before the memo and what is behind it stays
+pub record StoredIn (known memo : ℕ) (e : Entry) (ws vs : List ℕ) (r : Bool) : Type 0 where
+  pub fits : Fits (memo-in known memo vs)
+  pub says : StoreSays e (memo-in known memo ws) (memo-in known memo vs) r
+  pub keeps : Keeps (memo-in known memo ws) (memo-in known memo vs)
+  pub before : take known vs ≡ take known ws
+  pub behind : drop memo vs ≡ drop memo ws
