@@ -1,0 +1,6 @@
+-- Words written into a row, and what stands in it then: Words. The keys asked and the row of answers: Asked. The memo in the whole row: Memos. A record written: Records, Stores.
+pub mod Words
+pub mod Memos
+pub mod Asked
+pub mod Records
+pub mod Stores

@@ -1,0 +1,3 @@
+-- What the words of the work area stand for: Rows. What functions promise: Says.
+pub mod Rows
+pub mod Says
