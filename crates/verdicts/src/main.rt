@@ -3,7 +3,6 @@
 // All that it says of a line comes from the library; here is only what reads and prints.
 mod show;
 
-ghost use mathlib.Core.Path.{_≡_};
 ghost use Prim.Native.Nat.{_+_, _*_, _≤_};
 ghost use lib.Dec.{T};
 ghost use lib.ListN.{length};

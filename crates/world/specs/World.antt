@@ -15,7 +15,6 @@ use Rattle.std.specs.declared.option.Option.the-variants.{Some, None}
 use Rattle.base.specs.Base.{pick, Word, same}
 use Rattle.semantics.specs.Names.{Ty, t-num, t-bool, t-of, Slot, Sig, s-unknown, s-several}
 use Rattle.semantics.specs.Walk.{Query, q-here, q-there, q-file, q-before, k-sig, k-yes, Fetch, has}
-use Rattle.checker.specs.declared.lookup.SigId.{SigId}
 use Rattle.checker.specs.declared.lookup.Sort.{Sort}
 use Rattle.checker.specs.declared.lookup.Sort.the-variants.{Kind, Const, Rec, Def}
 use Rattle.checker.specs.declared.lookup.Meaning.{Meaning}

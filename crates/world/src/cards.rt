@@ -1,11 +1,6 @@
 // What is declared in the small world, by numbers.
-ghost use denote.Ref.{now};
 ghost use mathlib.Core.Path.{_≡_};
-ghost use mathlib.Core.List.{List, [], _∷_};
-ghost use Prim.Native.Nat.{ℕ};
 ghost use lib.ListN.{getD};
-ghost use Rattle.base.specs.Base.{pick};
-ghost use Rattle.std.specs.declared.option.Option.the-variants.{Some};
 ghost use Rattle.world.specs.World.{«card-of», «row-of», «tag-of», «type-sig»};
 use checker::lookup::BOOL;
 use checker::lookup::NONE;

@@ -1,8 +1,5 @@
 // Names of the small world, by their bytes.
-ghost use denote.Ref.{now};
 ghost use mathlib.Core.Path.{_≡_};
-ghost use mathlib.Core.Bool.{Bool};
-ghost use Prim.Native.Nat.{ℕ};
 ghost use Rattle.base.specs.Base.{pick};
 ghost use Rattle.std.specs.declared.option.Option.the-variants.{Some};
 ghost use Rattle.world.specs.World.{«own-is», «used-is», «here-is», «file-is», «found-in», «sig-of», «card-of», «row-of», «d-odd», «d-add», «d-ticket», «d-hold»};

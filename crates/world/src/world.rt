@@ -1,5 +1,4 @@
 // The small world as a lookup that knows all: a line is looked at as if it stood at the end of the file x.
-ghost use denote.Ref.{now};
 ghost use Rattle.world.specs.World.{«small-world»};
 use crate::cards::card_of;
 use crate::cards::slot_word;

@@ -1,4 +1,4 @@
-use mathlib.Core.Path.{_≡_, _∙_, ap, sym, subst}
+use mathlib.Core.Path.{_∙_, ap, sym, subst}
 use lib.ListN.{take}
 use Rattle.std.specs.declared.option.Option.{Option as Maybe}
 use Prim.Native.Nat.{ℕ}
