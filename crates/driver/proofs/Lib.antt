@@ -1,6 +1,10 @@
--- Words written into a row, and what stands in it then: Words. The keys asked and the row of answers: Asked. The memo in the whole row: Memos. A record written: Records, Stores.
+-- Words written into a row, and what stands in it then: Words. The keys asked and the row of answers: Asked. The memo in the whole row: Memos. A record written: Records, Stores. Turns against the machine: Turns, Looked, Calls. The work area lent: Lent.
 pub mod Words
 pub mod Memos
 pub mod Asked
 pub mod Records
 pub mod Stores
+pub mod Turns
+pub mod Lent
+pub mod Looked
+pub mod Calls

@@ -1,3 +1,4 @@
--- What the words of the work area stand for: Rows. What functions promise: Says.
+-- What the words of the work area stand for: Rows, Doing. What functions promise: Says.
 pub mod Rows
 pub mod Says
+pub mod Doing

@@ -1,0 +1,54 @@
+-- What the words and the state between turns stand for, as a state of the machine. ms is the memo, w the work area, with r words of rows
+-- and f words of frames.
+use mathlib.Core.Path.{_≡_}
+use mathlib.Core.List.{List, [], _∷_}
+use mathlib.Core.Option.{some}
+use Prim.Native.Nat.{ℕ, _+_, _<_, _≤_}
+use lib.ListN.{length, take, drop}
+use Rattle.std.specs.declared.option.Option.{Option as Perhaps}
+use Rattle.std.specs.declared.option.Option.the-variants.{Some, None}
+use Rattle.engine.specs.declared.key.Key.{Key}
+use Rattle.engine.specs.Engine.{Ans, Kept, Entry, Got, find}
+use Rattle.engine.specs.Machine.{Frame, looks, State, call, back, tell, look, called, backed}
+use Rattle.memo.specs.Record.{deep}
+use Rattle.memo.specs.Log.{Fits, kept-entries, entry-at}
+use Rattle.driver.specs.declared.state.Now.{Now}
+use Rattle.driver.specs.declared.state.At.{At}
+use Rattle.driver.specs.declared.state.Now.the-variants.{Call, Back, Tell}
+use Rattle.driver.specs.Rows.{Stack, Telling}
+use Rattle.driver.specs.Says.{memo-in}
+
+-- where the machine stands: a key is to be brought; an answer of n words came back, one word behind the newest row; a rule is to be told
+-- n answers, whose row begins at a word
+abbrev pub Doing : List ℕ → List ℕ → ℕ → ℕ → Now → State → Type 0
+Doing ms w r f (Call k) (call m j st) = (k ≡ j) × (m .entries ≡ kept-entries ms) × Stack ms (take r w) (deep f w) st
+Doing ms w r f (Call k) (back m a st) = ⊥
+Doing ms w r f (Call k) (tell m j gs st) = ⊥
+Doing ms w r f (Back n) (call m j st) = ⊥
+Doing ms w r f (Back n) (back m a st) = (n ≡ length a) × (take n (drop (r + 1) w) ≡ a) × (r + 1 + n + f ≤ length w) × (m .entries ≡ kept-entries ms) × Stack ms (take r w) (deep f w) st
+Doing ms w r f (Back n) (tell m j gs st) = ⊥
+Doing ms w r f (Tell k n from) (call m j st) = ⊥
+Doing ms w r f (Tell k n from) (back m a st) = ⊥
+Doing ms w r f (Tell k n from) (tell m j gs st) = (k ≡ j) × (n ≡ length gs) × (m .entries ≡ kept-entries ms) × Telling ms (take r w) (deep f w) from gs st
+
+-- the row is in order: inputs up to known, the memo up to memo, and r words of rows and f words of frames in the work area
+pub record Area (ws : List ℕ) (known memo r f : ℕ) : Type 0 where
+  pub low : known ≤ memo
+  pub high : memo + (r + f) ≤ length ws
+  pub small : length ws < 4294967296
+  pub fits : Fits (memo-in known memo ws)
+
+-- a key's entry at the depth d looked at from its i-th question on: where the machine stands then; or there was too little room
+abbrev pub LookSays : ℕ → ℕ → ℕ → ℕ → Key → ℕ → ℕ → List ℕ → List ℕ → Perhaps At → Type 0
+LookSays known memo r f k d i ws vs (Some t) = Area vs known memo (t .rows) (t .frames) × (take memo vs ≡ take memo ws) × ((m : Kept) (e : Entry) (gs : List Got) (st : List Frame) → entry-at (memo-in known memo ws) d ≡ e → drop i (e .gots) ≡ gs → m .entries ≡ kept-entries (memo-in known memo ws) → Stack (memo-in known memo ws) (take r (drop memo ws)) (deep f (drop memo ws)) st → Doing (memo-in known memo vs) (drop memo vs) (t .rows) (t .frames) (t .now) (look m k e gs st))
+LookSays known memo r f k d i ws vs None = length ws < memo + (r + f) + (7 + length (entry-at (memo-in known memo ws) d .ans))
+
+-- a key that is no input is to be brought: where the machine stands then; or its entry's answer doesn't go in
+abbrev pub CallSays : ℕ → ℕ → ℕ → ℕ → Key → List ℕ → List ℕ → Perhaps At → Type 0
+CallSays known memo r f k ws vs (Some t) = Area vs known memo (t .rows) (t .frames) × (take memo vs ≡ take memo ws) × ((m : Kept) (st : List Frame) → m .entries ≡ kept-entries (memo-in known memo ws) → Stack (memo-in known memo ws) (take r (drop memo ws)) (deep f (drop memo ws)) st → Doing (memo-in known memo vs) (drop memo vs) (t .rows) (t .frames) (t .now) (called m k st (find (m .entries) k)))
+CallSays known memo r f k ws vs None = (e : Entry) × (find (kept-entries (memo-in known memo ws)) k ≡ some e) × (length ws < memo + (r + f) + (7 + length (e .ans)))
+
+-- an answer of n words comes back to a frame that looks
+abbrev pub BackSays : ℕ → ℕ → ℕ → ℕ → ℕ → List ℕ → List ℕ → Perhaps At → Type 0
+BackSays known memo r f n ws vs (Some t) = Area vs known memo (t .rows) (t .frames) × (take memo vs ≡ take memo ws) × ((m : Kept) (a : Ans) (k : Key) (e : Entry) (g : Got) (gs : List Got) (st : List Frame) → Doing (memo-in known memo ws) (drop memo ws) r f (Back n) (back m a (looks k e g gs ∷ st)) → Doing (memo-in known memo vs) (drop memo vs) (t .rows) (t .frames) (t .now) (backed m a (looks k e g gs ∷ st)))
+BackSays known memo r f n ws vs None = (m : Kept) (a : Ans) (k : Key) (e : Entry) (g : Got) (gs : List Got) (st : List Frame) → Doing (memo-in known memo ws) (drop memo ws) r f (Back n) (back m a (looks k e g gs ∷ st)) → length ws < memo + (r + f) + (7 + length (e .ans))
