@@ -9,7 +9,14 @@ use memo::entry::first;
 use memo::index::find;
 
 // A key that is no input: its entry is looked at, or else it is worked out.
-pub fn call_kept(mem: &mut [u32], known: usize, memo: usize, r: usize, f: usize, k: &Key) -> Option<At>
+pub fn call_kept(
+    mem: &mut [u32],
+    known: usize,
+    memo: usize,
+    r: usize,
+    f: usize,
+    k: &Key,
+) -> Option<At>
     requires { ⌜ Area (now mem) known memo r f ⌝ }
     ensures { λ t. ⌜ CallSays known memo r f (now (k .entry)) (now (mem .entry)) (now (mem .exit)) t ⌝ }
 {
