@@ -9,7 +9,7 @@ use lib.ListN.{length, take, drop}
 use Rattle.std.specs.declared.option.Option.{Option as Perhaps}
 use Rattle.std.specs.declared.option.Option.the-variants.{Some, None}
 use Rattle.engine.specs.declared.key.Key.{Key}
-use Rattle.engine.specs.Engine.{Ans, Then, ask, done, Kept, Entry, Got, find}
+use Rattle.engine.specs.Engine.{Ans, Then, ask, done, Rules, answers, Kept, Entry, Got, find}
 use Rattle.engine.specs.Says.{answer-long}
 use Rattle.engine.specs.declared.rules.Turn.{Turn}
 use Rattle.engine.specs.declared.rules.Turn.the-variants.{Ask, Done, Narrow}
@@ -87,3 +87,17 @@ abbrev pub RuleSays : Then → ℕ → ℕ → ℕ → ℕ → List ℕ → List
 RuleSays t memo r f from ws vs (Ask q) = t ≡ ask q
 RuleSays t memo r f from ws vs (Done n) = (t ≡ done (take n (drop (memo + r) vs))) × (memo + (r + (n + f)) ≤ length ws)
 RuleSays t memo r f from ws vs Narrow = length ws < memo + (r + f) + (4096 + 256 * (r - from + answer-long t))
+
+-- the answer of a rule that is done
+abbrev pub answer-of : Then → Ans
+answer-of (ask k) = []
+answer-of (done a) = a
+
+-- the rule of k is told what it got: where the machine stands then; or there was too little room, by what the rule does next
+abbrev pub Short : ℕ → ℕ → ℕ → ℕ → Key → ℕ → List Got → Then → List ℕ → Type 0
+Short known memo r f k from gs t ws = (length ws < memo + (r + f) + (4096 + 256 * (r - from + answer-long t))) ⊎ (spare (memo-in known memo ws) < entry-long (made k (answer-of t) gs))
+
+abbrev pub TellSays : Rules → ℕ → ℕ → ℕ → ℕ → Key → ℕ → ℕ → List ℕ → List ℕ → Perhaps At → Type 0
+TellSays b known memo r f k n from ws vs (Some t) = (m : Kept) (gs : List Got) (st : List Frame) → Doing (memo-in known memo ws) (drop memo ws) r f (Tell k n from) (tell m k gs st) →
+    Area vs known memo (t .rows) (t .frames) × Grown known memo ws vs × Doing (memo-in known memo vs) (drop memo vs) (t .rows) (t .frames) (t .now) (told m k gs st (b .next k (answers gs)))
+TellSays b known memo r f k n from ws vs None = (m : Kept) (gs : List Got) (st : List Frame) → Doing (memo-in known memo ws) (drop memo ws) r f (Tell k n from) (tell m k gs st) → Grown known memo ws vs × Short known memo r f k from gs (b .next k (answers gs)) ws

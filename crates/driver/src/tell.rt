@@ -4,10 +4,12 @@ ghost use mathlib.Core.Path.{_≡_};
 ghost use Prim.Native.Nat.{ℕ, _+_, _-_, _*_, _<_, _≤_};
 ghost use lib.ListN.{length, take, drop};
 ghost use mathlib.Core.List.{List};
-ghost use Rattle.engine.specs.Engine.{Rules as RuleBook, Got, answers};
+ghost use Rattle.engine.specs.Engine.{Rules as RuleBook, Got, Kept, answers};
+ghost use Rattle.engine.specs.Machine.{Frame, tell};
 ghost use Rattle.engine.specs.Says.{row};
 ghost use Rattle.memo.specs.Record.{deep};
-ghost use Rattle.driver.specs.Doing.{Area, AskSays, DoneSays, RuleSays};
+ghost use Rattle.driver.specs.Says.{memo-in};
+ghost use Rattle.driver.specs.Doing.{Doing, Area, AskSays, DoneSays, RuleSays, TellSays};
 use crate::record::store;
 use crate::stack::push_work;
 use crate::stack::settle;
@@ -95,4 +97,31 @@ pub fn go<R: Rules>(
 {
     let end = mem.len() - f;
     rules.go(k, &mut mem[memo + from..end], r - from, n)
+}
+
+// The rule of k is told what it got, and asks or is done.
+pub fn tell_rule<R: Rules>(
+    mem: &mut [u32],
+    known: usize,
+    memo: usize,
+    r: usize,
+    f: usize,
+    rules: &mut R,
+    k: &Key,
+    n: usize,
+    from: usize,
+) -> Option<At>
+    requires area { ⌜ Area (now mem) known memo r f ⌝ }
+    requires runs1 { ⌜ R·Rules .runs (now rules) < 9223372036854775808 ⌝ }
+    requires row { ⌜ («from» ≤ r) × (3 * n ≤ f) ⌝ }
+    requires told { ⌜ ((m : Kept) × (gs : List Got) × (st : List Frame) × Doing (memo-in known memo (now mem)) (drop memo (now mem)) r f (Now.Tell (now k) n «from») (tell m (now k) gs st)) ⌝ }
+    ensures book1 { λ _. ⌜ R·Rules .book (now (rules .exit)) ≡ R·Rules .book (now (rules .entry)) ⌝ }
+    ensures runs1 { λ _. ⌜ R·Rules .runs (now (rules .exit)) ≡ R·Rules .runs (now (rules .entry)) + 1 ⌝ }
+    ensures says { λ t. ⌜ TellSays (R·Rules .book (now (rules .entry))) known memo r f (now (k .entry)) n «from» (now (mem .entry)) (now (mem .exit)) t ⌝ }
+{
+    match go(mem, memo, r, f, rules, k, n, from) {
+        Turn::Ask(q) => ask(mem, known, memo, r, f, k, n, from, &q),
+        Turn::Done(len) => done(mem, known, memo, r, f, k, n, from, len),
+        Turn::Narrow => None,
+    }
 }
