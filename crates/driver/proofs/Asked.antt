@@ -58,7 +58,12 @@ split (g ∷ gs) (suc i) h =
     let l = s .long in
     let z : suc i + 1 ≡ suc (i + 1) = omega arith in
     record {
-      g = s .g; xs = g ∷ s .xs; ys = s .ys; is = ap (λ l. g ∷ l) (s .is); long = omega arith; now1 = ap (λ l. g ∷ l) (s .now1);
+      g = s .g;
+      xs = g ∷ s .xs;
+      ys = s .ys;
+      is = ap (λ l. g ∷ l) (s .is);
+      long = omega arith;
+      now1 = ap (λ l. g ∷ l) (s .now1);
       next = ap (λ n. take n (g ∷ gs)) z ∙ ap (λ l. g ∷ l) (s .next);
     }
 

@@ -29,14 +29,13 @@ call-none ms w r f k h p m st em s =
     subst (λ o. Doing ms w r f (Tell k 0 r) (called m k st o)) (sym (ap (λ es. find es k) em ∙ p)) (refl, refl, em, telling-none ms w (deep f w) r st h s)
 
 pub call-look : (known memo r f : ℕ) (k : Key) (d : ℕ) (ws vs : List ℕ) → find (kept-entries (memo-in known memo ws)) k ≡ some (entry-at (memo-in known memo ws) d) → (t : Perhaps At) → LookSays known memo r f k d 0 ws vs t → CallSays known memo r f k ws vs t
-call-look known memo r f k d ws vs p (Some t) x =
-    (
-      x .0,
-      x .1,
-      λ m st em s.
-        let e = entry-at (memo-in known memo ws) d in
-        subst (λ o. Doing (memo-in known memo vs) (drop memo vs) (t .rows) (t .frames) (t .now) (called m k st o)) (sym (ap (λ es. find es k) em ∙ p)) (x .2 m e (e .gots) st refl refl em s),
-    )
+call-look known memo r f k d ws vs p (Some t) x = (
+  x .0,
+  x .1,
+  λ m st em s.
+      let e = entry-at (memo-in known memo ws) d in
+      subst (λ o. Doing (memo-in known memo vs) (drop memo vs) (t .rows) (t .frames) (t .now) (called m k st o)) (sym (ap (λ es. find es k) em ∙ p)) (x .2 m e (e .gots) st refl refl em s),
+)
 call-look known memo r f k d ws vs p None x = (x .0, entry-at (memo-in known memo ws) d, p, x .1)
 
 -- the first words of a frame that looks
@@ -91,16 +90,15 @@ module _ (known memo r f n : ℕ) (ws : List ℕ) (tag : ℕ) (key : Key) (x y z
       }
 
   pub back-same : (vs : List ℕ) → c ≡ true → (t : Perhaps At) → LookSays known memo r (f - 7) key x (y + 1) ws vs t → BackSays known memo r f n ws vs t
-  back-same vs p (Some t) l =
-      (
-        l .0,
-        l .1,
-        λ m a k e g gs st d.
-          let o = knows m a k e g gs st d in
-          let b : same a (g .ans) ≡ true = sym (o .same2) ∙ p in
-          subst (λ q. Doing (memo-in known memo vs) (drop memo vs) (t .rows) (t .frames) (t .now) (pick q (look m k e gs st) (tell m k [] st))) (sym b)
-          (subst (λ j. Doing (memo-in known memo vs) (drop memo vs) (t .rows) (t .frames) (t .now) (look m j e gs st)) (o .key2) (l .2 m e gs st (o .entry2) (o .rest2) (o .kept2) (o .stack2))),
-      )
+  back-same vs p (Some t) l = (
+    l .0,
+    l .1,
+    λ m a k e g gs st d.
+        let o = knows m a k e g gs st d in
+        let b : same a (g .ans) ≡ true = sym (o .same2) ∙ p in
+        subst (λ q. Doing (memo-in known memo vs) (drop memo vs) (t .rows) (t .frames) (t .now) (pick q (look m k e gs st) (tell m k [] st))) (sym b)
+        (subst (λ j. Doing (memo-in known memo vs) (drop memo vs) (t .rows) (t .frames) (t .now) (look m j e gs st)) (o .key2) (l .2 m e gs st (o .entry2) (o .rest2) (o .kept2) (o .stack2))),
+  )
   back-same vs p None l = (l .0, λ m a k e g gs st d. let o = knows m a k e g gs st d in let q = ap (λ (e : Entry). length (e .ans)) (o .entry2) in let y = l .1 in omega arith)
 
   pub back-other : c ≡ false → r ≤ length w → (m : Kept) (a : Ans) (k : Key) (e : Entry) (g : Got) (gs : List Got) (st : List Frame) → Doing ms w r f (Back n) (back m a (looks k e g gs ∷ st)) → Doing ms w r (f - 7) (Tell key 0 r) (backed m a (looks k e g gs ∷ st))

@@ -56,8 +56,7 @@ module _ (known memo r f : ℕ) (ws y : List ℕ) (area : Area ws known memo r f
       let rows = same-rows memo r t ws vs (omega arith) fronts in
       let hi = area .high in
       let fs = same-frames memo f ws vs (omega arith) lv frames in
-      subst (λ ms. Doing ms (drop memo vs) r f (Back n) (back m a st)) (sym (same-memo known memo ws vs (area .low) hand-before))
-      (
+      subst (λ ms. Doing ms (drop memo vs) r f (Back n) (back m a st)) (sym (same-memo known memo ws vs (area .low) hand-before)) (
         ln,
         ap (take n) (drop-drop (r + 1) memo vs) ∙ e,
         omega arith,

@@ -25,8 +25,7 @@ look-next ms ns w v r f d i q k key a next en lk g fs rows m e [] st ee eg em s 
 look-next ms ns w v r f d i q k key a next en lk g fs rows m e (h ∷ gs) st ee eg em s =
     let x : record { key = key; ans = a } ∷ drop (i + 1) (entry-at ms d .gots) ≡ h ∷ gs = sym (g .is) ∙ ap (λ (y : Entry). drop i (y .gots)) ee ∙ eg in
     let y : record { key = key; ans = a } ≡ h = cc in
-    subst (λ ns. Doing ns v r (f + 7) (Call key) (look m k e (h ∷ gs) st)) (sym en)
-    (
+    subst (λ ns. Doing ns v r (f + 7) (Call key) (look m k e (h ∷ gs) st)) (sym en) (
       ap (λ (z : Got). z .key) y,
       em,
       (deep f w, record { d = d; i = i; q = q; words = fs; looks1 = lk; entry = ee; rest = eg }, subst (λ l. Stack ms l (deep f w) st) (sym rows) s),
@@ -36,8 +35,7 @@ look-next ms ns w v r f d i q k key a next en lk g fs rows m e (h ∷ gs) st ee 
 pub look-end : (ms ns w v : List ℕ) (r f d i n : ℕ) (k : Key) → ns ≡ ms → length (entry-at ms d .gots) ≤ i → n ≡ length (entry-at ms d .ans) → take n (drop (r + 1) v) ≡ entry-at ms d .ans → r + 1 + n + f ≤ length v → take r v ≡ take r w → deep f v ≡ deep f w
     → (m : Kept) (e : Entry) (gs : List Got) (st : List Frame) → entry-at ms d ≡ e → drop i (e .gots) ≡ gs → m .entries ≡ kept-entries ms → Stack ms (take r w) (deep f w) st → Doing ns v r f (Back n) (look m k e gs st)
 look-end ms ns w v r f d i n k en li ln an room rows fs m e [] st ee eg em s =
-    subst (λ ns. Doing ns v r f (Back n) (look m k e [] st)) (sym en)
-    (
+    subst (λ ns. Doing ns v r f (Back n) (look m k e [] st)) (sym en) (
       ln ∙ ap (λ (y : Entry). length (y .ans)) ee,
       an ∙ ap (λ (y : Entry). y .ans) ee,
       room,

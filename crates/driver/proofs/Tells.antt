@@ -25,8 +25,7 @@ pub ask-turn : (ms ns w v : List ℕ) (r f : ℕ) (k : Key) (n from : ℕ) (q : 
     → (m : Kept) (gs : List Got) (st : List Frame) → Doing ms w r f (Tell k n from) (tell m k gs st) → Doing ns v r (f + 10) (Call q) (told m k gs st (ask q))
 ask-turn ms ns w v r f k n from q en added rows m gs st d =
     let t = d .3 in
-    subst (λ ns. Doing ns v r (f + 10) (Call q) (told m k gs st (ask q))) (sym en)
-    (
+    subst (λ ns. Doing ns v r (f + 10) (Call q) (told m k gs st (ask q))) (sym en) (
       refl,
       d .2,
       (t .vs, t .us, record { row1 = rows ∙ t .row1; words = added ∙ (λ i. work-words k (d .1 i) (sym (t .from) i) q (t .keys1 i)) }, t .below),
@@ -36,8 +35,7 @@ ask-turn ms ns w v r f k n from q en added rows m gs st d =
 pub stack-keeps : (ms ns : List ℕ) → Keeps ms ns → (st : List Frame) (rows fs : List ℕ) → Stack ms rows fs st → Stack ns rows fs st
 stack-keeps ms ns k [] rows fs s = s
 stack-keeps ms ns k (looks j e g gs ∷ st) rows fs s =
-    let l = s .1 in
-    (
+    let l = s .1 in (
       s .0,
       record { d = l .d; i = l .i; q = l .q; words = l .words; looks1 = k .looks (l .d) (l .i) (l .q) (l .looks1); entry = k .records1 (l .d) (l .looks1 .record1) .1 ∙ l .entry; rest = l .rest },
       stack-keeps ms ns k st rows (s .0) (s .2),
@@ -103,8 +101,7 @@ module _ (known memo r f : ℕ) (k : Key) (n from len : ℕ) (ws v1 : List ℕ) 
       let vl = length-drop memo vs in
       let ll = l .long in
       let rows : take from (drop memo vs) ≡ t .vs = ap (take from) (l .work) ∙ shorter from (from + 1) v w1 (omega arith) below ∙ ap (take from) e1 ∙ o .below in
-      let frames : deep (f - 3 * n) (drop memo vs) ≡ t .us = ap (deep (f - 3 * n)) (l .work) ∙ above ∙ ap (deep (f - 3 * n)) e1 ∙ o .rest in
-      (
+      let frames : deep (f - 3 * n) (drop memo vs) ≡ t .us = ap (deep (f - 3 * n)) (l .work) ∙ above ∙ ap (deep (f - 3 * n)) e1 ∙ o .rest in (
         a2,
         record { fits = a2 .fits; keeps = kp; before = shorter known memo vs v1 (area .low) (l .before) ∙ x .before },
         (

@@ -44,8 +44,7 @@ back-works ms w v r f n tag key x y z h added same1 m a k gs q st d =
     let el : n ≡ length a = d .0 in
     let ea : take n (drop (r + 1) w) ≡ a = d .1 in
     let c = hd .count in
-    let l = length-append gs (g ∷ []) in
-    (
+    let l = length-append gs (g ∷ []) in (
       hd .key1,
       omega arith,
       d .3,

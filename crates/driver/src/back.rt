@@ -36,7 +36,15 @@ pub fn back_work(work: &mut [u32], r: usize, f: usize, n: usize, h: &Head) -> At
 
 // An answer of n words comes back to a frame that looks, whose first words are h: if it is the one that the entry got, the entry is looked
 // at further, else its key is worked out.
-pub fn back_look(mem: &mut [u32], known: usize, memo: usize, r: usize, f: usize, n: usize, h: &Head) -> Option<At>
+pub fn back_look(
+    mem: &mut [u32],
+    known: usize,
+    memo: usize,
+    r: usize,
+    f: usize,
+    n: usize,
+    h: &Head,
+) -> Option<At>
     requires area { ⌜ Area (now mem) known memo r f ⌝ }
     requires room { ⌜ (memo + (r + (1 + (n + f))) ≤ length (now mem)) × (7 ≤ f) ⌝ }
     requires reads { ⌜ Heads (now h .tag) (now h .key) (now h .x) (now h .y) (now h .z) (deep f (drop memo (now mem))) (deep (f - 7) (drop memo (now mem))) ⌝ }

@@ -11,7 +11,14 @@ use memo::entry::first;
 use memo::index::find;
 
 // A key that is no input: its entry is looked at, or else it is worked out.
-pub fn call_kept(mem: &mut [u32], known: usize, memo: usize, r: usize, f: usize, k: &Key) -> Option<At>
+pub fn call_kept(
+    mem: &mut [u32],
+    known: usize,
+    memo: usize,
+    r: usize,
+    f: usize,
+    k: &Key,
+) -> Option<At>
     requires { ⌜ Area (now mem) known memo r f ⌝ }
     ensures { λ t. ⌜ CallSays known memo r f (now (k .entry)) (now (mem .entry)) (now (mem .exit)) t ⌝ }
 {
@@ -27,7 +34,15 @@ pub fn call_kept(mem: &mut [u32], known: usize, memo: usize, r: usize, f: usize,
 }
 
 // An input: its answer is handed on.
-pub fn call_input<I: Inputs>(mem: &mut [u32], known: usize, memo: usize, r: usize, f: usize, inputs: &I, k: &Key) -> Option<At>
+pub fn call_input<I: Inputs>(
+    mem: &mut [u32],
+    known: usize,
+    memo: usize,
+    r: usize,
+    f: usize,
+    inputs: &I,
+    k: &Key,
+) -> Option<At>
     requires { ⌜ Area (now mem) known memo r f ⌝ }
     ensures { λ t. ⌜ HandSays known memo r f (I·Inputs .given (now (inputs .entry)) (take known (now (mem .entry))) (now (k .entry))) (now (mem .entry)) (now (mem .exit)) t ⌝ }
 {

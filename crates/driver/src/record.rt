@@ -48,7 +48,19 @@ fn write(
     requires inside { ⌜ (a + n + f ≤ length (now mem)) × (3 * count ≤ f) × (length (now mem) < 4294967296) ⌝ }
     ensures { λ _. ⌜ ((gs : List Got) (us : List ℕ) → deep f (now (mem .entry)) ≡ stacked gs us → length gs ≡ count → now (mem .exit) ≡ puts p (packed (now (k .entry)) prev (take n (drop a (now (mem .entry)))) count (keys gs) (take (a - r) (drop r (now (mem .entry))))) (now (mem .entry))) ⌝ }
 {
-    put(mem, p, &[k.kind, k.a, k.b, prev, n as u32, count as u32, (a - r) as u32]);
+    put(
+        mem,
+        p,
+        &[
+            k.kind,
+            k.a,
+            k.b,
+            prev,
+            n as u32,
+            count as u32,
+            (a - r) as u32,
+        ],
+    );
     mem.copy_within(a..a + n, p + 7);
     put_keys(mem, p + 7 + n, f, count);
     mem.copy_within(r..a, p + 7 + n + 3 * count);
@@ -102,6 +114,13 @@ pub fn store(
     let b = bucket_of(k, buckets);
     let prev = ms[3 + b];
     write(mem, memo - depth - size, k, prev, r, a, n, count, f);
-    point(mem, known, b, (depth + size) as u32, (depth + size) as u32, records + 1);
+    point(
+        mem,
+        known,
+        b,
+        (depth + size) as u32,
+        (depth + size) as u32,
+        records + 1,
+    );
     true
 }

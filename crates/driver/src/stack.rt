@@ -33,7 +33,11 @@ pub fn push_work(work: &mut [u32], f: usize, k: &Key, n: u32, from: u32, q: &Key
     ensures adds { λ _. ⌜ deep (f + 10) (now (work .exit)) ≡ work-words (now (k .entry)) n «from» (now (q .entry)) (deep f (now (work .entry))) ⌝ }
     ensures below { λ _. ⌜ ((m : ℕ) → m + (f + 10) ≤ length (now (work .entry)) → take m (now (work .exit)) ≡ take m (now (work .entry))) ⌝ }
 {
-    push(work, f, &[1, k.kind, k.a, k.b, n, from, 0, q.kind, q.a, q.b]);
+    push(
+        work,
+        f,
+        &[1, k.kind, k.a, k.b, n, from, 0, q.kind, q.a, q.b],
+    );
 }
 
 // The first words of a frame.

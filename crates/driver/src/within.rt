@@ -12,7 +12,14 @@ use memo::entry::answer;
 use memo::entry::got;
 
 // The answer of the entry at a depth, copied to the place t, if it goes in before end.
-pub fn copy_answer(mem: &mut [u32], known: usize, memo: usize, d: usize, t: usize, end: usize) -> Option<usize>
+pub fn copy_answer(
+    mem: &mut [u32],
+    known: usize,
+    memo: usize,
+    d: usize,
+    t: usize,
+    end: usize,
+) -> Option<usize>
     requires inside { ⌜ (known ≤ memo) × (memo ≤ t) × (t ≤ end) × (end ≤ length (now mem)) ⌝ }
     requires fits { ⌜ Fits (memo-in known memo (now mem)) ⌝ }
     requires record1 { ⌜ Record (memo-in known memo (now mem)) d ⌝ }
@@ -37,7 +44,16 @@ pub struct Compared {
 }
 
 // The n words from t on against the i-th thing that the entry at the depth d asked.
-pub fn compare(mem: &[u32], known: usize, memo: usize, d: usize, i: usize, q: usize, t: usize, n: usize) -> Compared
+pub fn compare(
+    mem: &[u32],
+    known: usize,
+    memo: usize,
+    d: usize,
+    i: usize,
+    q: usize,
+    t: usize,
+    n: usize,
+) -> Compared
     requires inside { ⌜ (known ≤ memo) × (memo ≤ length (now mem)) × (t + n ≤ length (now mem)) ⌝ }
     requires fits { ⌜ Fits (memo-in known memo (now mem)) ⌝ }
     requires looks { ⌜ Looks (memo-in known memo (now mem)) d i q ⌝ ∗ ⌜ i < length (entry-at (memo-in known memo (now mem)) d .gots) ⌝ }

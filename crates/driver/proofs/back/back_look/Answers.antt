@@ -14,8 +14,7 @@ returns-then-c c =
 pub returns : need.returns
 returns c =
     let ws = c .args .mem .now in
-    let l = length-drop (c .args .memo) ws in
-    (
+    let l = length-drop (c .args .memo) ws in (
       area-on (c .args .known) (c .args .memo) (c .args .r) (c .args .f) (c .args .r) (c .args .f - 7) ws ws (c .pre .area) refl refl (omega arith),
       refl,
       back-other (c .args .known) (c .args .memo) (c .args .r) (c .args .f) (c .args .n) ws _ _ _ _ _ (c .pre .reads) _ _ (c .compare-c .ensures) (c .if-c .left) (omega arith),

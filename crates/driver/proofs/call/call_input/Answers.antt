@@ -34,8 +34,7 @@ returns g c =
     let ly : length y ≡ length ws - f = s .0 ∙ el in
     let fit : memo + (r + 1) + f ≤ length ws = omega arith in
     let et : take known (take (length ws - f) ws) ≡ take known ws = take-take known (length ws - f) ws (omega arith) in
-    let ea = ap (λ q. g .I·Inputs .given (c .args .inputs .now) q (c .args .k .now)) et in
-    (
+    let ea = ap (λ q. g .I·Inputs .given (c .args .inputs .now) q (c .args .k .now)) et in (
       hand-area known memo r f ws y (c .pre) fit ly (s .1 .0),
       hand-before known memo r f ws y (c .pre) fit ly (s .1 .0),
       hand-turn known memo r f ws y (c .pre) fit ly (s .1 .0) (g .I·Inputs .given (c .args .inputs .now) (take known ws) (c .args .k .now)) (c .in-Some .n) (s .1 .1 .0 ∙ ap length ea) (s .1 .1 .1 ∙ ea),

@@ -47,8 +47,7 @@ returns-then-i-asked c =
     let w = drop memo ws in
     let added : deep (f + 7) (drop memo vs) ≡ look-words (c .args .k .now) (c .args .d) (c .args .i) (c .args .q) (deep f w) =
     ap (deep (f + 7)) (l .work) ∙ c .push-look .ensures .adds ∙ ap (λ q. look-words (c .args .k .now) (c .args .d) (c .args .i) (c .args .q) (deep f q)) wh in
-    let rows : take r (drop memo vs) ≡ take r w = ap (take r) (l .work) ∙ c .push-look .ensures .below r (omega (arith, ap length wh)) ∙ ap (take r) wh in
-    (
+    let rows : take r (drop memo vs) ≡ take r w = ap (take r) (l .work) ∙ c .push-look .ensures .below r (omega (arith, ap length wh)) ∙ ap (take r) wh in (
       area-on (c .args .known) memo r f r (f + 7) ws vs a (l .long) b (omega arith),
       b,
       look-next (memo-in (c .args .known) memo ws) (memo-in (c .args .known) memo vs) w (drop memo vs) r f (c .args .d) (c .args .i) (c .args .q) (c .args .k .now) _ _ _ (same-memo (c .args .known) memo ws vs (a .low) b) (c .pre .looks) (c .got .ensures) added rows,
@@ -69,8 +68,7 @@ returns c =
     let b : take memo vs ≡ take memo ws = shorter memo (memo + (r + 1)) vs ws (omega arith) (s .below) in
     let dl = length-drop memo vs in
     let an = ap (take n) (drop-drop (r + 1) memo vs) ∙ s .says .1 in
-    let fit : r + 1 + n + f ≤ length (drop memo vs) = let x = s .says .2 in omega arith in
-    (
+    let fit : r + 1 + n + f ≤ length (drop memo vs) = let x = s .says .2 in omega arith in (
       area-on known memo r f r f ws vs a long b (omega arith),
       b,
       look-end (memo-in known memo ws) (memo-in known memo vs) (drop memo ws) (drop memo vs) r f (c .args .d) (c .args .i) n (c .args .k .now) (same-memo known memo ws vs (a .low) b) (omega arith) (s .says .0) an fit (same-rows memo r (memo + (r + 1)) ws vs (omega arith) (s .below)) (same-frames memo f ws vs (omega arith) long (s .above f (omega arith))),

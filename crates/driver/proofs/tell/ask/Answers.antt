@@ -29,8 +29,7 @@ returns c =
     let w = drop memo ws in
     let added : deep (f + 10) (drop memo vs) ≡ work-words (c .args .k .now) (c .args .n) (c .args .from) (c .args .q .now) (deep f w) =
     ap (deep (f + 10)) (l .work) ∙ c .push-work .ensures .adds ∙ ap (λ q. work-words (c .args .k .now) (c .args .n) (c .args .from) (c .args .q .now) (deep f q)) wh in
-    let rows : take r (drop memo vs) ≡ take r w = ap (take r) (l .work) ∙ c .push-work .ensures .below r (omega (arith, ap length wh)) ∙ ap (take r) wh in
-    (
+    let rows : take r (drop memo vs) ≡ take r w = ap (take r) (l .work) ∙ c .push-work .ensures .below r (omega (arith, ap length wh)) ∙ ap (take r) wh in (
       area-on known memo r f r (f + 10) ws vs a (l .long) (l .before) (omega arith),
       l .before,
       ask-turn (memo-in known memo ws) (memo-in known memo vs) w (drop memo vs) r f (c .args .k .now) (c .args .n) (c .args .from) (c .args .q .now) (same-memo known memo ws vs (a .low) (l .before)) added rows,
