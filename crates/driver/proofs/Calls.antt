@@ -39,20 +39,21 @@ call-look known memo r f k d ws vs p (Some t) x = (
 call-look known memo r f k d ws vs p None x = (x .0, entry-at (memo-in known memo ws) d, p, x .1)
 
 -- the first words of a frame that looks
-pub record Look-head (key : Key) (x y z : ℕ) (ws : List ℕ) (k : Key) (d i q : ℕ) (us : List ℕ) : Type 0 where
+pub record Look-head (tag : ℕ) (key : Key) (x y z : ℕ) (ws : List ℕ) (k : Key) (d i q : ℕ) (us : List ℕ) : Type 0 where
+  pub tag1 : tag ≡ 0
   pub key1 : key ≡ k
   pub depth : x ≡ d
   pub which : y ≡ i
   pub place : z ≡ q
   pub rest : ws ≡ us
 
-pub look-head : (tag : ℕ) (key : Key) (x y z : ℕ) (fs ws : List ℕ) (k : Key) (d i q : ℕ) (us : List ℕ) → Heads tag key x y z fs ws → fs ≡ look-words k d i q us → Look-head key x y z ws k d i q us
+pub look-head : (tag : ℕ) (key : Key) (x y z : ℕ) (fs ws : List ℕ) (k : Key) (d i q : ℕ) (us : List ℕ) → Heads tag key x y z fs ws → fs ≡ look-words k d i q us → Look-head tag key x y z ws k d i q us
 look-head tag key x y z fs ws k d i q us h e =
     let p : tag ∷ key-words key (x ∷ y ∷ z ∷ ws) ≡ look-words k d i q us = sym (h .is) ∙ e in
     let a : key .kind ≡ k .kind = cc in
     let b : key .a ≡ k .a = cc in
     let c : key .b ≡ k .b = cc in
-    record { key1 = λ t. record { kind = a t; a = b t; b = c t }; depth = cc; which = cc; place = cc; rest = cc }
+    record { tag1 = cc; key1 = λ t. record { kind = a t; a = b t; b = c t }; depth = cc; which = cc; place = cc; rest = cc }
 
 module _ (known memo r f n : ℕ) (ws : List ℕ) (tag : ℕ) (key : Key) (x y z : ℕ) (h : Heads tag key x y z (deep f (drop memo ws)) (deep (f - 7) (drop memo ws))) (c : Bool) (next : ℕ)
     (cs : CompareSays (memo-in known memo ws) x y (take n (drop (memo + (r + 1)) ws)) c next) where

@@ -13,7 +13,7 @@ use Rattle.engine.specs.Engine.{Ans, Then, ask, done, Rules, answers, Kept, Ent
 use Rattle.engine.specs.Says.{answer-long}
 use Rattle.engine.specs.declared.rules.Turn.{Turn}
 use Rattle.engine.specs.declared.rules.Turn.the-variants.{Ask, Done, Narrow}
-use Rattle.engine.specs.Machine.{Frame, looks, State, call, back, tell, look, called, backed, told}
+use Rattle.engine.specs.Machine.{Frame, looks, works, State, call, back, tell, look, called, backed, told}
 use Rattle.memo.specs.Record.{deep, entry-long, made}
 use Rattle.memo.specs.Log.{Fits, kept-entries, entry-at, spare}
 use Rattle.memo.specs.Says.{Keeps}
@@ -101,3 +101,13 @@ abbrev pub TellSays : Rules → ℕ → ℕ → ℕ → ℕ → Key → ℕ → 
 TellSays b known memo r f k n from ws vs (Some t) = (m : Kept) (gs : List Got) (st : List Frame) → Doing (memo-in known memo ws) (drop memo ws) r f (Tell k n from) (tell m k gs st) →
     Area vs known memo (t .rows) (t .frames) × Grown known memo ws vs × Doing (memo-in known memo vs) (drop memo vs) (t .rows) (t .frames) (t .now) (told m k gs st (b .next k (answers gs)))
 TellSays b known memo r f k n from ws vs None = (m : Kept) (gs : List Got) (st : List Frame) → Doing (memo-in known memo ws) (drop memo ws) r f (Tell k n from) (tell m k gs st) → Grown known memo ws vs × Short known memo r f k from gs (b .next k (answers gs)) ws
+
+-- the answer that a frame may have to hand on
+abbrev pub look-long : Frame → ℕ
+look-long (looks k e g gs) = length (e .ans)
+look-long (works k gs q) = 0
+
+-- an answer of n words comes back to the newest frame
+abbrev pub ReturnSays : ℕ → ℕ → ℕ → ℕ → ℕ → List ℕ → List ℕ → Perhaps At → Type 0
+ReturnSays known memo r f n ws vs (Some t) = Area vs known memo (t .rows) (t .frames) × (take memo vs ≡ take memo ws) × ((m : Kept) (a : Ans) (fr : Frame) (st : List Frame) → Doing (memo-in known memo ws) (drop memo ws) r f (Back n) (back m a (fr ∷ st)) → Doing (memo-in known memo vs) (drop memo vs) (t .rows) (t .frames) (t .now) (backed m a (fr ∷ st)))
+ReturnSays known memo r f n ws vs None = (take memo vs ≡ take memo ws) × ((m : Kept) (a : Ans) (fr : Frame) (st : List Frame) → Doing (memo-in known memo ws) (drop memo ws) r f (Back n) (back m a (fr ∷ st)) → length ws < memo + (r + f) + (7 + look-long fr))
