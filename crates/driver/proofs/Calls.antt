@@ -36,23 +36,24 @@ call-look known memo r f k d ws vs p (Some t) x = (
       let e = entry-at (memo-in known memo ws) d in
       subst (λ o. Doing (memo-in known memo vs) (drop memo vs) (t .rows) (t .frames) (t .now) (called m k st o)) (sym (ap (λ es. find es k) em ∙ p)) (x .2 m e (e .gots) st refl refl em s),
 )
-call-look known memo r f k d ws vs p None x = (entry-at (memo-in known memo ws) d, p, x)
+call-look known memo r f k d ws vs p None x = (x .0, entry-at (memo-in known memo ws) d, p, x .1)
 
 -- the first words of a frame that looks
-pub record Look-head (key : Key) (x y z : ℕ) (ws : List ℕ) (k : Key) (d i q : ℕ) (us : List ℕ) : Type 0 where
+pub record Look-head (tag : ℕ) (key : Key) (x y z : ℕ) (ws : List ℕ) (k : Key) (d i q : ℕ) (us : List ℕ) : Type 0 where
+  pub tag1 : tag ≡ 0
   pub key1 : key ≡ k
   pub depth : x ≡ d
   pub which : y ≡ i
   pub place : z ≡ q
   pub rest : ws ≡ us
 
-pub look-head : (tag : ℕ) (key : Key) (x y z : ℕ) (fs ws : List ℕ) (k : Key) (d i q : ℕ) (us : List ℕ) → Heads tag key x y z fs ws → fs ≡ look-words k d i q us → Look-head key x y z ws k d i q us
+pub look-head : (tag : ℕ) (key : Key) (x y z : ℕ) (fs ws : List ℕ) (k : Key) (d i q : ℕ) (us : List ℕ) → Heads tag key x y z fs ws → fs ≡ look-words k d i q us → Look-head tag key x y z ws k d i q us
 look-head tag key x y z fs ws k d i q us h e =
     let p : tag ∷ key-words key (x ∷ y ∷ z ∷ ws) ≡ look-words k d i q us = sym (h .is) ∙ e in
     let a : key .kind ≡ k .kind = cc in
     let b : key .a ≡ k .a = cc in
     let c : key .b ≡ k .b = cc in
-    record { key1 = λ t. record { kind = a t; a = b t; b = c t }; depth = cc; which = cc; place = cc; rest = cc }
+    record { tag1 = cc; key1 = λ t. record { kind = a t; a = b t; b = c t }; depth = cc; which = cc; place = cc; rest = cc }
 
 module _ (known memo r f n : ℕ) (ws : List ℕ) (tag : ℕ) (key : Key) (x y z : ℕ) (h : Heads tag key x y z (deep f (drop memo ws)) (deep (f - 7) (drop memo ws))) (c : Bool) (next : ℕ)
     (cs : CompareSays (memo-in known memo ws) x y (take n (drop (memo + (r + 1)) ws)) c next) where
@@ -99,7 +100,7 @@ module _ (known memo r f n : ℕ) (ws : List ℕ) (tag : ℕ) (key : Key) (x y z
         subst (λ q. Doing (memo-in known memo vs) (drop memo vs) (t .rows) (t .frames) (t .now) (pick q (look m k e gs st) (tell m k [] st))) (sym b)
         (subst (λ j. Doing (memo-in known memo vs) (drop memo vs) (t .rows) (t .frames) (t .now) (look m j e gs st)) (o .key2) (l .2 m e gs st (o .entry2) (o .rest2) (o .kept2) (o .stack2))),
   )
-  back-same vs p None l = λ m a k e g gs st d. let o = knows m a k e g gs st d in let q = ap (λ (e : Entry). length (e .ans)) (o .entry2) in omega arith
+  back-same vs p None l = (l .0, λ m a k e g gs st d. let o = knows m a k e g gs st d in let q = ap (λ (e : Entry). length (e .ans)) (o .entry2) in let y = l .1 in omega arith)
 
   pub back-other : c ≡ false → r ≤ length w → (m : Kept) (a : Ans) (k : Key) (e : Entry) (g : Got) (gs : List Got) (st : List Frame) → Doing ms w r f (Back n) (back m a (looks k e g gs ∷ st)) → Doing ms w r (f - 7) (Tell key 0 r) (backed m a (looks k e g gs ∷ st))
   back-other p hr m a k e g gs st d =

@@ -1,11 +1,11 @@
 -- The work area as a part of the row: what a write into it leaves, and what stays of the memo and of the work area.
 use mathlib.Core.Path.{_≡_, refl, sym, ap, subst, _∙_}
 use mathlib.Core.List.{List, [], _∷_, _++_, append-nil}
-use Prim.Native.Nat.{ℕ, _+_, _-_, _≤_, _<_}
+use Prim.Native.Nat.{ℕ, zero, suc, _+_, _-_, _≤_, _<_}
 use native.Mathlib.Omega.{arith}
 use lib.ListN.{length, take, drop, length-drop}
 use borrow.Rule.Slice.PartMut.{putMid}
-use Rattle.std.proofs.shelf.Lists.{drop-take, drop-drop, drop-at, drop-all, take-at, take-take, take-rest, length-take-le}
+use Rattle.std.proofs.shelf.Lists.{drop-take, drop-drop, drop-at, drop-all, take-at, take-take, take-rest, take-append-drop, length-take-le}
 use Rattle.memo.specs.Record.{deep}
 use Rattle.memo.specs.Log.{Fits}
 use Rattle.driver.specs.Says.{memo-in}
@@ -63,3 +63,13 @@ same-frames memo f ws vs h l e = deep-work memo f vs (omega arith) ∙ e ∙ sym
 
 pub shorter : (n m : ℕ) (xs ys : List ℕ) → n ≤ m → take m xs ≡ take m ys → take n xs ≡ take n ys
 shorter n m xs ys h e = sym (take-take n m xs h) ∙ ap (take n) e ∙ take-take n m ys h
+
+-- the first words of a row in two parts
+pub take-two : (b j : ℕ) (xs : List ℕ) → take (b + j) xs ≡ take b xs ++ take j (drop b xs)
+take-two b j xs = sym (take-append-drop b (take (b + j) xs)) ∙ (λ t. take-take b (b + j) xs (omega arith) t ++ drop-take b j xs t)
+
+pub take-short : (n : ℕ) (xs : List ℕ) → length (take n xs) ≤ length xs
+take-short zero [] = omega arith
+take-short zero (x ∷ xs) = omega arith
+take-short (suc n) [] = omega arith
+take-short (suc n) (x ∷ xs) = let r = take-short n xs in omega arith

@@ -4,17 +4,18 @@ ghost use mathlib.Core.Path.{_≡_};
 ghost use mathlib.Core.List.{List, [], _∷_, _++_};
 ghost use Prim.Native.Nat.{ℕ, _+_, _-_, _<_, _≤_};
 ghost use lib.ListN.{length, take, drop};
-ghost use Rattle.engine.specs.Engine.{Kept, Got};
+ghost use Rattle.engine.specs.Engine.{Ans, Kept, Got};
 ghost use Rattle.engine.specs.declared.key.Key.{Key};
 ghost use Rattle.engine.specs.Machine.{Frame, works, State, back, backed};
 ghost use Rattle.memo.specs.Record.{deep};
 ghost use Rattle.memo.specs.Log.{entry-at};
 ghost use Rattle.memo.specs.Says.{Looks};
 ghost use Rattle.driver.specs.Says.{memo-in, Heads};
-ghost use Rattle.driver.specs.Doing.{Doing, Area, BackSays};
+ghost use Rattle.driver.specs.Doing.{Doing, Area, BackSays, ReturnSays};
 use crate::look::look;
 use crate::stack::Head;
 use crate::stack::add_answer;
+use crate::stack::newest;
 use crate::state::At;
 use crate::state::Now;
 use crate::within::compare;
@@ -62,4 +63,24 @@ pub fn back_look(
         frames: f - 7,
         now: Now::Tell(h.key, 0, r),
     })
+}
+
+// An answer of n words comes back to the newest frame.
+pub fn back_frame(
+    mem: &mut [u32],
+    known: usize,
+    memo: usize,
+    r: usize,
+    f: usize,
+    n: usize,
+) -> Option<At>
+    requires area { ⌜ Area (now mem) known memo r f ⌝ }
+    requires there { ⌜ ((m : Kept) × (a : Ans) × (fr : Frame) × (st : List Frame) × Doing (memo-in known memo (now mem)) (drop memo (now mem)) r f (Now.Back n) (back m a (fr ∷ st))) ⌝ }
+    ensures { λ t. ⌜ ReturnSays known memo r f n (now (mem .entry)) (now (mem .exit)) t ⌝ }
+{
+    let h = newest(&mem[memo..], f);
+    if h.tag == 0 {
+        return back_look(mem, known, memo, r, f, n, &h);
+    }
+    Some(back_work(&mut mem[memo..], r, f, n, &h))
 }

@@ -5,4 +5,5 @@ mod look;
 mod record;
 mod stack;
 mod state;
+mod tell;
 mod within;

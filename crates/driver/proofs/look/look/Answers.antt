@@ -73,3 +73,9 @@ returns c =
       b,
       look-end (memo-in known memo ws) (memo-in known memo vs) (drop memo ws) (drop memo vs) r f (c .args .d) (c .args .i) n (c .args .k .now) (same-memo known memo ws vs (a .low) b) (omega arith) (s .says .0) an fit (same-rows memo r (memo + (r + 1)) ws vs (omega arith) (s .below)) (same-frames memo f ws vs (omega arith) long (s .above f (omega arith))),
     )
+
+pub returns-in-rest : need.returns-in-rest
+returns-in-rest c =
+    let s = c .in-rest .ensures tt in
+    let x = s .says in
+    (shorter (c .args .memo) (c .args .memo + (c .args .r + 1)) (c .copy-answer .last .mem) (c .args .mem .now) (omega arith) (s .below), omega arith)
