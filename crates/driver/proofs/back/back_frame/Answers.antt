@@ -76,10 +76,9 @@ returns c =
     let rm = b .room in
     let lw = ap length wh in
     let h = subst (λ q. Heads (c .newest-h .result .tag) (c .newest-h .result .key) (c .newest-h .result .x) (c .newest-h .result .y) (c .newest-h .result .z) (deep f q) (deep (f - 7) q)) wh (c .newest-h .ensures) in
-    let en = same-memo known memo ws vs (a .low) (l .before) in
-    (
+    let en = same-memo known memo ws vs (a .low) (l .before) in (
       area-on known memo r f (t .rows) (t .frames) ws vs a (l .long) (l .before) (omega arith),
       l .before,
       return-work known memo r f n ws _ _ _ _ _ _ h (c .if-h-eq0 .left) (memo-in known memo vs) (drop memo vs) t
-      (λ m x j gs q st d. subst (λ ms. Doing ms (drop memo vs) (t .rows) (t .frames) (t .now) (backed m x (works j gs q ∷ st))) (sym en) (subst (λ u. Doing (memo-in known memo ws) u (t .rows) (t .frames) (t .now) (backed m x (works j gs q ∷ st))) (sym (l .work)) (b .says (memo-in known memo ws) m x j gs q st (subst (λ u. Doing (memo-in known memo ws) u r f (Back n) (back m x (works j gs q ∷ st))) (sym wh) d)))),
+          (λ m x j gs q st d. subst (λ ms. Doing ms (drop memo vs) (t .rows) (t .frames) (t .now) (backed m x (works j gs q ∷ st))) (sym en) (subst (λ u. Doing (memo-in known memo ws) u (t .rows) (t .frames) (t .now) (backed m x (works j gs q ∷ st))) (sym (l .work)) (b .says (memo-in known memo ws) m x j gs q st (subst (λ u. Doing (memo-in known memo ws) u r f (Back n) (back m x (works j gs q ∷ st))) (sym wh) d)))),
     )
