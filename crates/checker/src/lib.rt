@@ -4,7 +4,7 @@ pub mod check;
 mod lines;
 pub mod lookup;
 pub mod rows;
-pub mod said;
+mod said;
 pub mod samples;
 mod turns;
 mod types;
