@@ -1,4 +1,6 @@
 // Words, which are rows of byte values, and whether two of them are the same.
+#![tactic(auto)]
+
 ghost use Rattle.std.specs.Prelude.{◌≡◌, ◌≤◌, length, drop};
 ghost use Rattle.base.specs.Base.{same};
 

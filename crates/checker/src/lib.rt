@@ -1,4 +1,6 @@
 // What a line says, found out in one pass over its flat code. All lies in one row of words that is lent; what names mean is looked up.
+#![tactic(auto)]
+
 mod calls;
 pub mod check;
 mod lines;

@@ -1,4 +1,6 @@
 // The symbol table of texts, collected from their lines into a row of words. The table's layout stands in the crate symbols.
+#![tactic(auto)]
+
 pub mod collect;
 mod entry;
 mod line;

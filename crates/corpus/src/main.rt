@@ -1,5 +1,7 @@
 // corpus: reads lines of the language from standard input, and prints of each what it is, with the places of its parts.
 // All that it says of a line comes from the library; here is only what reads and prints.
+#![tactic(auto)]
+
 mod show;
 
 use anyhow::anyhow;

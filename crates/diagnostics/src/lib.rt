@@ -1,4 +1,6 @@
 // What is said of one line: it is read and checked, in one row of words, for any way of looking names up.
+#![tactic(auto)]
+
 ghost use Rattle.std.specs.Prelude.{◌≡◌, ◌+◌, ◌≤◌, length, take};
 ghost use Rattle.diagnostics.specs.Diagnose.{RoomySays, WrongSays, CodeSays, DiagnoseSays};
 

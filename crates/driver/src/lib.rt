@@ -1,4 +1,6 @@
 // The engine's loop in one lent row of words, for any rules and inputs.
+#![tactic(auto)]
+
 mod back;
 mod call;
 mod look;

@@ -1,2 +1,4 @@
 // (in work)
+#![tactic(auto)]
+
 pub mod theorems;

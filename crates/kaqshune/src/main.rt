@@ -1,5 +1,7 @@
 // kaqshune FILE..: prints each line of the files that isn't understood, with a mark under the place, and how many there are.
 // All that it says of a line comes from the library; here is only what reads arguments and files, and prints.
+#![tactic(auto)]
+
 mod check;
 mod options;
 

@@ -1,5 +1,7 @@
 // The memo: the engine's entries in one lent row of words. What a caller sees are entries: to store one, find one, read it, go back to
 // a mark, and repack. Knows nothing of rules or inputs.
+#![tactic(auto)]
+
 mod chain;
 pub mod entry;
 pub mod index;

@@ -1,4 +1,6 @@
 // How a fault is shown to a person: the line itself, one sign a byte, and a mark under the place.
+#![tactic(auto)]
+
 ghost use Rattle.std.specs.Prelude.{◌≡◌, ℕ, ◌-◌, ◌++◌, replicate, OnOk};
 ghost use Rattle.report.specs.Shown.{shown, all_shown, wide, mark};
 

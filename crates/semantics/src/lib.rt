@@ -1,2 +1,4 @@
 // What names mean and what is said of a line: the theorems about the definitions in specs/.
+#![tactic(auto)]
+
 pub mod theorems;

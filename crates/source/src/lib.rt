@@ -1,4 +1,6 @@
 // What answers are read from: files in their order, each a name and lines, in words of a row. Knows nothing of how they are kept.
+#![tactic(auto)]
+
 ghost use Rattle.std.specs.Prelude.{◌≡◌, ℕ, List, length};
 ghost use Rattle.semantics.specs.Names.{Texts};
 ghost use Rattle.source.specs.Source.{NameSays, CountSays, LineSays, FindSays};

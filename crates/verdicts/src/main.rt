@@ -1,6 +1,8 @@
 // verdicts: reads lines of the language from standard input, and prints of each what is wrong in it, the types of its parts, and what
 // its names mean, as if it stood at the end of the file x of the small world.
 // All that it says of a line comes from the library; here is only what reads and prints.
+#![tactic(auto)]
+
 mod show;
 
 ghost use Rattle.std.specs.Prelude.{◌+◌, ◌*◌, ◌≤◌, T, length};

@@ -1,4 +1,6 @@
 // The worked lines of docs/LANGUAGE.md as tests: what is understood, and where the others go wrong.
+#![tactic(auto)]
+
 #[cfg(test)]
 mod tests {
     use parser::code::Span;
