@@ -1,11 +1,7 @@
 -- A line copied from the texts to the row's front.
-use mathlib.Core.Path.{_≡_, refl, sym, ap, _∙_}
-use mathlib.Core.List.{List, [], _∷_, _++_}
-use Prim.Native.Nat.{ℕ, _+_, _-_, _≤_, _<_}
-use native.Mathlib.Omega.{arith}
-use lib.ListN.{length, take, drop}
+use Rattle.std.proofs.Common.{◌≡◌, ℕ, ◌+◌, ◌-◌, ◌<◌, ◌≤◌, List, [], ◌∷◌, ◌++◌, length, take, drop, sym, refl, ap, ◌∙◌, arith}
 use lib.Seq.{paste, take-paste, drop-paste}
-use Rattle·std.proofs.shelf.Lists.{take-take, drop-drop, drop-take, length-drop, length-take, length-take-le}
+use Rattle.std.proofs.lemmas.List.{take-take, drop-drop, drop-take, length-drop, length-take, length-take-le}
 
 -- a part of a part
 pub inner : (ws : List ℕ) (t k f n : ℕ) → f + n ≤ k → take n (drop f (take k (drop t ws))) ≡ take n (drop (t + f) ws)
@@ -27,7 +23,8 @@ fetched ws vs p n m slot em e h s =
     let back : (us : List ℕ) → drop slot us ≡ drop (slot - n) (drop n us) = λ us. (let k : n + (slot - n) ≡ slot = omega arith in sym (drop-drop (slot - n) n us ∙ ap (λ j. drop j us) k)) in
     record {
       is = ap (take n) f ∙ ap (λ j. take j (paste ws 0 (drop p ws) n)) (sym z) ∙ take-paste ws 0 (drop p ws) n (omega arith) long;
-      behind = back vs ∙ ap (drop (slot - n)) tail ∙ sym (back ws) }
+      behind = back vs ∙ ap (drop (slot - n)) tail ∙ sym (back ws);
+    }
 
-pub part-long : (m : List ℕ) (f n : ℕ) → f + n ≤ length m → length (take n (drop f m)) ≡ n
-part-long m f n h = length-take-le n (drop f m) (omega (arith, length-drop f m))
+pub part_long : (m : List ℕ) (f n : ℕ) → f + n ≤ length m → length (take n (drop f m)) ≡ n
+part_long m f n h = length-take-le n (drop f m) (omega (arith, length-drop f m))

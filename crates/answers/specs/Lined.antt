@@ -1,16 +1,13 @@
 -- Lines one behind the other: where each begins, and how long they are together.
-use mathlib.Core.Path.{_≡_}
-use mathlib.Core.List.{List, [], _∷_}
-use Prim.Native.Nat.{ℕ, _+_}
-use lib.ListN.{length}
-use Rattle·lexer.specs.Tokens.{Line}
+use Rattle.std.specs.Prelude.{◌≡◌, ℕ, ◌+◌, List, [], ◌∷◌, length}
+use Rattle.lexer.specs.Tokens.{Line}
 
 -- the first begins at s, and each behind the end of the one before
 abbrev pub Follows : ℕ → List Line → Type 0
 Follows s [] = Unit {0}
-Follows s (l ∷ ls) = (l .start ≡ s) × Follows (1 + (s + length (l .bytes))) ls
+Follows s (l ∷ ls) = (l.start ≡ s) × Follows (1 + (s + length l.bytes)) ls
 
 -- bytes of lines, each with its end
 abbrev pub spread : List Line → ℕ
 spread [] = 0
-spread (l ∷ ls) = (1 + length (l .bytes)) + spread ls
+spread (l ∷ ls) = (1 + length l.bytes) + spread ls

@@ -1,15 +1,12 @@
 // One line of the texts looked at: fetched, read and checked.
-ghost use denote.Ref.{now};
-ghost use mathlib.Core.Path.{_≡_};
-ghost use Prim.Native.Nat.{_≤_};
-ghost use lib.ListN.{take, drop};
-ghost use Rattle·answers·specs.Rows.{«texts-in», InOrder};
-ghost use Rattle·answers·specs.Says.{InspectSays};
+ghost use Rattle.std.specs.Prelude.{◌≡◌, ◌≤◌, take, drop};
+ghost use Rattle.answers.specs.Rows.{texts_in, InOrder};
+ghost use Rattle.answers.specs.Says.{InspectSays};
+
 use crate::Layout;
 use crate::fetch::fetch;
 use checker::lookup::Lookup;
-use diagnostics::Findings;
-use diagnostics::diagnose;
+use diagnostics::{Findings, diagnose};
 use source::Source;
 
 // A line that was looked at: its length, and what is said of it.
@@ -30,10 +27,10 @@ pub fn inspect<S: Source, L: Lookup>(
     i: usize,
     base: usize,
 ) -> Option<Inspected>
-    requires order { ⌜ InOrder l (now words) ⌝ }
-    requires fits { ⌜ S·Source .fits (now source) («texts-in» l (now words)) ⌝ }
-    ensures kept { λ _. ⌜ drop (l .texts) (take base (now (words .exit))) ≡ drop (l .texts) (take base (now (words .entry))) ⌝ }
-    ensures says { λ r. ⌜ InspectSays (L·Lookup .book (now (look .entry))) (S·Source .holds (now (source .entry)) («texts-in» l (now (words .entry)))) file i (l .texts) base (now (words .entry)) (now (words .exit)) r ⌝ }
+    requires order { InOrder l words.old }
+    requires fits { S.Source.fits source.now (texts_in l words.old) }
+    ensures kept { drop l.texts (take base words.new) ≡ drop l.texts (take base words.old) }
+    ensures says { InspectSays (L.Lookup.book look.now) (S.Source.holds source.now (texts_in l words.old)) file i l.texts base words.old words.new result }
 {
     let Some(len) = fetch(source, words, l, file, i) else {
         return None;

@@ -1,21 +1,17 @@
 // A file's lines gone over for its faults.
-ghost use denote.Ref.{now};
-ghost use mathlib.Core.Path.{_≡_};
-ghost use mathlib.Core.List.{List};
-ghost use Prim.Native.Nat.{ℕ, _+_, _*_, _≤_};
-ghost use lib.ListN.{length};
-ghost use Rattle·lexer.specs.Tokens.{lines};
-ghost use Rattle·semantics.specs.Names.{File};
-ghost use Rattle·semantics.specs.Answers.{«faults-of», «all-spoken»};
-ghost use Rattle·findings.specs.Gathered.{gathered};
-ghost use Rattle·answers·specs.Rows.{«texts-in», «table-row»};
-ghost use Rattle·answers·specs.Reviews.{Asked, LooksIn, Ready, Reviewing, Roomy, Walking};
+ghost use Rattle.std.specs.Prelude.{◌≡◌, ℕ, ◌+◌, ◌*◌, ◌≤◌, List, length};
+ghost use Rattle.lexer.specs.Tokens.{lines};
+ghost use Rattle.semantics.specs.Names.{File};
+ghost use Rattle.semantics.specs.Answers.{«faults-of», «all-spoken»};
+ghost use Rattle.findings.specs.Gathered.{gathered};
+ghost use Rattle.answers.specs.Rows.{texts_in, table_row};
+ghost use Rattle.answers.specs.Reviews.{Asked, LooksIn, Ready, Reviewing, Roomy, Walking};
+
 use crate::Layout;
 use crate::inspect::inspect;
 use declarations::declare::declared;
 use findings::faults::gather;
 use resolver::plain::Plain;
-use resolver::plain::PlainLookup;
 use source::Source;
 use syntax::view::item_of;
 
@@ -29,7 +25,7 @@ pub struct Walked {
 
 // What names are looked up in for a line of a file before which it has so many declarations.
 pub fn lookup(l: Layout, file: usize, before: usize) -> Plain
-    ensures { λ r. ⌜ LooksIn l file before r ⌝ }
+    ensures { LooksIn l file before result }
 {
     Plain {
         from: 0,
@@ -50,10 +46,10 @@ fn review_line<S: Source>(
     i: usize,
     at: Walked,
 ) -> Walked
-    requires fits { ⌜ S·Source .fits (now source) («texts-in» l (now words)) ⌝ }
-    requires ready { ⌜ Ready (S·Source .holds (now source) («texts-in» l (now words))) l (now words) ⌝ }
-    requires walked { ⌜ Walking (S·Source .holds (now source) («texts-in» l (now words))) l file base (now words) i «at» ⌝ }
-    ensures { λ r. ⌜ ((ws : List ℕ) (x : File) → Asked (S·Source .holds (now (source .entry)) («texts-in» l (now (words .entry)))) file x → Reviewing (S·Source .holds (now (source .entry)) («texts-in» l (now (words .entry)))) x l ws (now (words .entry)) i «at» → Reviewing (S·Source .holds (now (source .entry)) («texts-in» l (now (words .entry)))) x l ws (now (words .exit)) (i + 1) r) ⌝ }
+    requires fits { S.Source.fits source.now (texts_in l words.old) }
+    requires ready { Ready (S.Source.holds source.now (texts_in l words.old)) l words.old }
+    requires walked { Walking (S.Source.holds source.now (texts_in l words.old)) l file base words.old i «at» }
+    ensures { (ws : List ℕ) (x : File) → Asked (S.Source.holds source.now (texts_in l words.old)) file x → Reviewing (S.Source.holds source.now (texts_in l words.old)) x l ws words.old i «at» → Reviewing (S.Source.holds source.now (texts_in l words.old)) x l ws words.new (i + 1) result }
 {
     let look = lookup(l, file, at.before);
     let Some(seen) = inspect(source, &look, words, l, file, i, base) else {
@@ -76,12 +72,12 @@ pub fn review<S: Source>(
     file: usize,
     base: usize,
 ) -> usize
-    requires fits { ⌜ S·Source .fits (now source) («texts-in» l (now words)) ⌝ }
-    requires ready { ⌜ Ready (S·Source .holds (now source) («texts-in» l (now words))) l (now words) ⌝ }
-    requires asked { ⌜ ((x : File) × Asked (S·Source .holds (now source) («texts-in» l (now words))) file x × Roomy l base (length (x .text)) (now words)) ⌝ }
-    ensures kept { λ _. ⌜ «table-row» l (now (words .exit)) ≡ «table-row» l (now (words .entry)) ⌝ }
-    ensures within { λ r. ⌜ l .work + 4 * r ≤ length (now (words .exit)) ⌝ }
-    ensures finds { λ r. ⌜ ((x : File) → Asked (S·Source .holds (now (source .entry)) («texts-in» l (now (words .entry)))) file x → gathered (now (words .exit)) (l .work) r ≡ «faults-of» («all-spoken» (S·Source .holds (now (source .entry)) («texts-in» l (now (words .entry)))) x)) ⌝ }
+    requires fits { S.Source.fits source.now (texts_in l words.old) }
+    requires ready { Ready (S.Source.holds source.now (texts_in l words.old)) l words.old }
+    requires asked { (x : File) × Asked (S.Source.holds source.now (texts_in l words.old)) file x × Roomy l base (length x.text) words.old }
+    ensures kept { table_row l words.new ≡ table_row l words.old }
+    ensures within { l.work + 4 * result ≤ length words.new }
+    ensures finds { (x : File) → Asked (S.Source.holds source.now (texts_in l words.old)) file x → gathered words.new l.work result ≡ «faults-of» («all-spoken» (S.Source.holds source.now (texts_in l words.old)) x) }
 {
     let Layout { texts, index, .. } = l;
     let n = source.lines(&words[texts..index], file);

@@ -1,9 +1,6 @@
 -- What every other definition uses: choices, options, and words, which are lists of byte values.
-use mathlib.Core.Bool.{Bool, true, false, _&&_, _||_, not}
-use mathlib.Core.List.{List, [], _∷_, _++_}
-use mathlib.Core.Option.{Option, some, none}
-use Prim.Native.Nat.{ℕ, zero, suc, _+_}
-use lib.Dec.{eqb}
+use Rattle.std.specs.Prelude.{ℕ, zero, suc, ◌+◌, Bool, true, false, not, ◌&&◌, ◌||◌, List, [], ◌∷◌, ◌++◌, ◌==◌}
+use Rattle.std.proofs.Math.Option.{Option, some, none}
 
 abbrev pub pick : {A : Type 0} → Bool → A → A → A
 pick true a b = a
@@ -13,25 +10,25 @@ abbrev pub opt : {A C : Type 0} → Option A → C → (A → C) → C
 opt none c f = c
 opt (some x) c f = f x
 
-abbrev pub on-some : {A C : Type 0} → Option A → (A → Option C) → Option C
-on-some none f = none
-on-some (some x) f = f x
+abbrev pub on_some : {A C : Type 0} → Option A → (A → Option C) → Option C
+on_some none f = none
+on_some (some x) f = f x
 
-abbrev pub or-else : {A : Type 0} → Option A → Option A → Option A
-or-else none b = b
-or-else (some x) b = some x
+abbrev pub or_else : {A : Type 0} → Option A → Option A → Option A
+or_else none b = b
+or_else (some x) b = some x
 
 abbrev pub when1 : {A : Type 0} → Bool → Option A → Option A
 when1 true o = o
 when1 false o = none
 
-abbrev pub is-some : {A : Type 0} → Option A → Bool
-is-some none = false
-is-some (some x) = true
+abbrev pub is_some : {A : Type 0} → Option A → Bool
+is_some none = false
+is_some (some x) = true
 
-abbrev pub any-of : {A : Type 0} → (A → Bool) → List A → Bool
-any-of f [] = false
-any-of f (x ∷ xs) = f x || any-of f xs
+abbrev pub any_of : {A : Type 0} → (A → Bool) → List A → Bool
+any_of f [] = false
+any_of f (x ∷ xs) = f x || any_of f xs
 
 abbrev pub Word : Type 0
 Word = List ℕ
@@ -40,7 +37,7 @@ abbrev pub same : Word → Word → Bool
 same [] [] = true
 same [] (y ∷ ys) = false
 same (x ∷ xs) [] = false
-same (x ∷ xs) (y ∷ ys) = eqb x y && same xs ys
+same (x ∷ xs) (y ∷ ys) = x == y && same xs ys
 
 abbrev pub among : Word → List Word → Bool
-among w ws = any-of (same w) ws
+among w ws = any_of (same w) ws

@@ -1,37 +1,17 @@
 // Names alone, calls and fields: what they mean is looked up.
-ghost use denote.Ref.{now};
-ghost use mathlib.Core.Path.{_≡_};
-ghost use Prim.Native.Nat.{_+_, _*_, _-_, _<_, _≤_};
-ghost use lib.ListN.{take};
-ghost use Rattle·grammar.specs.Code.{«o-name», «o-call», «o-field»};
-ghost use Rattle·parser.specs.Rows.{«span-of»};
-ghost use Rattle·checker·specs.Rows.{typed, «verdict-said», «meaning-is», Fits, Within, Writes};
-ghost use Rattle·checker·specs.Turns.{Ready, TurnSays};
-ghost use Rattle·checker·specs.Asks.{«told-value», begun, SlotsSay, «member-said», FieldTurn};
-use crate::lookup::Lookup;
-use crate::lookup::Meaning;
-use crate::lookup::Sort;
-use crate::lookup::Type;
-use crate::lookup::Want;
-use crate::packed::NONE;
-use crate::packed::pack;
-use crate::packed::unpack;
-use crate::regions::Frame;
-use crate::regions::Place;
-use crate::regions::below;
-use crate::regions::find;
-use crate::regions::newest;
-use crate::regions::push;
+ghost use Rattle.std.specs.Prelude.{◌≡◌, ◌+◌, ◌-◌, ◌*◌, ◌<◌, ◌≤◌, take};
+ghost use Rattle.grammar.specs.Code.{o_name, o_call, o_field};
+ghost use Rattle.parser.specs.Rows.{span_of};
+ghost use Rattle.checker.specs.Rows.{typed, verdict_said, meaning_is, Fits, Within, Writes};
+ghost use Rattle.checker.specs.Turns.{Ready, TurnSays};
+ghost use Rattle.checker.specs.Asks.{told_value, begun, SlotsSay, member_said, FieldTurn};
+
+use crate::lookup::{Lookup, Meaning, Sort, Type, Want};
+use crate::packed::{NONE, pack, unpack};
+use crate::regions::{Frame, Place, below, find, newest, push};
 use crate::rows::Bounds;
-use crate::said::Link;
-use crate::said::Verdict;
-use crate::said::blame;
-use crate::said::tell;
-use crate::said::value;
-use crate::verdict::MISPLACED;
-use crate::verdict::Role;
-use crate::verdict::judge;
-use crate::verdict::role_fits;
+use crate::said::{Link, Verdict, blame, tell, value};
+use crate::verdict::{MISPLACED, Role, judge, role_fits};
 use parser::code::Span;
 
 // The slots of a call: the signature that has them, one more than the next one's index or 0, and what is wrong with their number.
@@ -49,10 +29,10 @@ const NO_FIELD: u32 = 7;
 
 // What was found of the name s, and a value.
 fn tell_value(words: &mut [u32], b: Bounds, p: Place, s: Span, v: Verdict, span: Span) -> Place
-    requires fits { ⌜ Fits b p (now words) ⌝ }
-    requires less { ⌜ p .events + 2 < 3 * b .count ⌝ ∗ ⌜ p .height < b .count ⌝ }
-    ensures few { λ r. ⌜ r .height ≡ p .height + 1 ⌝ ∗ ⌜ r .names ≡ p .names ⌝ ∗ ⌜ r .events ≤ p .events + 3 ⌝ }
-    ensures writes { λ r. ⌜ Writes b p (now (words .entry)) r (now (words .exit)) (λ k line. «told-value» k («span-of» line s) v (span .from) (span .to)) ⌝ }
+    requires fits { Fits b p words.old }
+    requires less { (p.events + 2 < 3 * b.count) × (p.height < b.count) }
+    ensures few { (result.height ≡ p.height + 1) × ((result.names ≡ p.names) × (result.events ≤ p.events + 3)) }
+    ensures writes { Writes b p words.old result words.new (λ k line. told_value k (span_of line s) v span.from span.to) }
 {
     let q = tell(words, b, p, s, v);
     value(words, b, q, span, v.ty)
@@ -65,8 +45,8 @@ pub fn name<L: Lookup>(
     p: Place,
     s: Span,
 ) -> Result<Place, Want>
-    requires { ⌜ Ready b p (now words) ⌝ }
-    ensures { λ r. ⌜ TurnSays (book (now (look .entry))) b p (now (words .entry)) (now (words .exit)) (λ line. «o-name» («span-of» line s)) r ⌝ }
+    requires { Ready b p words.old }
+    ensures { TurnSays (book look.now) b p words.old words.new (λ line. o_name (span_of line s)) result }
 {
     if let Some(x) = find(words, b, p, s) {
         return Ok(tell_value(
@@ -91,8 +71,8 @@ pub fn name<L: Lookup>(
 
 // The slots of what is called with n arguments.
 fn slots_of<L: Lookup>(look: &L, words: &[u32], b: Bounds, m: Meaning, n: u32) -> Slots
-    requires { ⌜ Within b (now words) ⌝ }
-    ensures { λ r. ⌜ SlotsSay (book (now (look .entry)) (take (b .base) (now (words .entry)))) m n r ⌝ }
+    requires { Within b words.now }
+    ensures { SlotsSay (book look.now (take b.base words.now)) m n result }
 {
     let Meaning::Found(sig) = m else {
         return Slots {
@@ -122,10 +102,10 @@ fn slots_of<L: Lookup>(look: &L, words: &[u32], b: Bounds, m: Meaning, n: u32) -
 
 // What was found of the name s, and a call begun.
 fn begin(words: &mut [u32], b: Bounds, p: Place, s: Span, v: Verdict, c: Slots) -> Place
-    requires fits { ⌜ Fits b p (now words) ⌝ }
-    requires less { ⌜ p .events + 2 < 3 * b .count ⌝ ∗ ⌜ p .height < b .count ⌝ }
-    ensures few { λ r. ⌜ r .height ≡ p .height + 1 ⌝ ∗ ⌜ r .names ≡ p .names ⌝ ∗ ⌜ r .events ≤ p .events + 3 ⌝ }
-    ensures writes { λ r. ⌜ Writes b p (now (words .entry)) r (now (words .exit)) (λ k line. begun k («span-of» line s) v c) ⌝ }
+    requires fits { Fits b p words.old }
+    requires less { (p.events + 2 < 3 * b.count) × (p.height < b.count) }
+    ensures few { (result.height ≡ p.height + 1) × ((result.names ≡ p.names) × (result.events ≤ p.events + 3)) }
+    ensures writes { Writes b p words.old result words.new (λ k line. begun k (span_of line s) v c) }
 {
     let q = blame(words, b, p, s, c.fault);
     let r = tell(words, b, q, s, v);
@@ -150,8 +130,8 @@ pub fn call<L: Lookup>(
     s: Span,
     n: u32,
 ) -> Result<Place, Want>
-    requires { ⌜ Ready b p (now words) ⌝ }
-    ensures { λ r. ⌜ TurnSays (book (now (look .entry))) b p (now (words .entry)) (now (words .exit)) (λ line. «o-call» («span-of» line s) n) r ⌝ }
+    requires { Ready b p words.old }
+    ensures { TurnSays (book look.now) b p words.old words.new (λ line. o_call (span_of line s) n) result }
 {
     if let Some(x) = find(words, b, p, s) {
         let v = Verdict {
@@ -182,8 +162,8 @@ pub fn call<L: Lookup>(
 
 // What a field of that name is, of something that has that meaning.
 fn member<L: Lookup>(look: &L, words: &[u32], b: Bounds, m: Meaning, x: Span) -> Verdict
-    requires { ⌜ Within b (now words) ⌝ }
-    ensures { λ r. ⌜ «verdict-said» (book (now (look .entry)) (take (b .base) (now (words .entry)))) («span-of» (take (b .len) (now (words .entry))) x) r ≡ «member-said» («span-of» (take (b .len) (now (words .entry))) x) («meaning-is» (book (now (look .entry)) (take (b .base) (now (words .entry)))) m) ⌝ }
+    requires { Within b words.now }
+    ensures { verdict_said (book look.now (take b.base words.now)) (span_of (take b.len words.now) x) result ≡ member_said (span_of (take b.len words.now) x) (meaning_is (book look.now (take b.base words.now)) m) }
 {
     let missing = Verdict {
         ty: NONE,
@@ -214,8 +194,8 @@ fn field_of<L: Lookup>(
     ty: Type,
     x: Span,
 ) -> Result<Verdict, Want>
-    requires { ⌜ Within b (now words) ⌝ }
-    ensures { λ r. ⌜ FieldTurn (book (now (look .entry)) (take (b .base) (now (words .entry)))) (take (b .len) (now (words .entry))) (typed (book (now (look .entry)) (take (b .base) (now (words .entry)))) ty) («span-of» (take (b .len) (now (words .entry))) x) r ⌝ }
+    requires { Within b words.now }
+    ensures { FieldTurn (book look.now (take b.base words.now)) (take b.len words.now) (typed (book look.now (take b.base words.now)) ty) (span_of (take b.len words.now) x) result }
 {
     match ty {
         Type::None => Ok(Verdict {
@@ -244,8 +224,8 @@ pub fn field<L: Lookup>(
     p: Place,
     x: Span,
 ) -> Result<Place, Want>
-    requires { ⌜ Ready b p (now words) ⌝ }
-    ensures { λ r. ⌜ TurnSays (book (now (look .entry))) b p (now (words .entry)) (now (words .exit)) (λ line. «o-field» («span-of» line x)) r ⌝ }
+    requires { Ready b p words.old }
+    ensures { TurnSays (book look.now) b p words.old words.new (λ line. o_field (span_of line x)) result }
 {
     let of = newest(words, b, p);
     match field_of(look, words, b, unpack(of.ty), x) {

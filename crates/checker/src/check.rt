@@ -1,37 +1,19 @@
 // The whole: a line's code, operation by operation.
-ghost use denote.Ref.{now};
-ghost use mathlib.Core.Path.{_≡_};
-ghost use Prim.Native.Nat.{_+_, _*_, _<_, _≤_};
-ghost use lib.ListN.{length, take};
-ghost use Rattle·parser.specs.Rows.{«op-is»};
-ghost use Rattle·checker·specs.Rows.{«code-end»};
-ghost use Rattle·checker·specs.Turns.{Ready, TurnSays};
-ghost use Rattle·checker·specs.Whole.{WentSays, «told-of», LineSays, RoomSays, CheckSays};
-use crate::calls::call;
-use crate::calls::field;
-use crate::calls::name;
-use crate::lines::constant;
-use crate::lines::new_name;
-use crate::lines::result;
-use crate::lines::slot;
-use crate::lines::use_file;
-use crate::lookup::Lookup;
-use crate::lookup::Want;
+ghost use Rattle.std.specs.Prelude.{◌≡◌, ◌+◌, ◌*◌, ◌<◌, ◌≤◌, length, take};
+ghost use Rattle.parser.specs.Rows.{op_is};
+ghost use Rattle.checker.specs.Rows.{code_end};
+ghost use Rattle.checker.specs.Turns.{Ready, TurnSays};
+ghost use Rattle.checker.specs.Whole.{WentSays, told_of, LineSays, RoomSays, CheckSays};
+
+use crate::calls::{call, field, name};
+use crate::lines::{constant, new_name, result, slot, use_file};
+use crate::lookup::{Lookup, Want};
 use crate::regions::Place;
 use crate::rows::Bounds;
-use crate::turns::argument;
-use crate::turns::body;
-use crate::turns::bound;
-use crate::turns::brackets;
-use crate::turns::choice;
-use crate::turns::condition;
-use crate::turns::end;
-use crate::turns::end_let;
-use crate::turns::misread;
-use crate::turns::number;
-use crate::turns::operation;
-use parser::code::Op;
-use parser::code::op_at;
+use crate::turns::{
+    argument, body, bound, brackets, choice, condition, end, end_let, misread, number, operation,
+};
+use parser::code::{Op, op_at};
 
 // How far it went: to the end, and so much was said; or up to what has to be known first.
 #[derive(Clone, Copy)]
@@ -48,8 +30,8 @@ pub enum Stop {
 }
 
 fn turn<L: Lookup>(look: &L, words: &mut [u32], b: Bounds, p: Place, op: Op) -> Result<Place, Want>
-    requires { ⌜ Ready b p (now words) ⌝ }
-    ensures { λ r. ⌜ TurnSays (book (now (look .entry))) b p (now (words .entry)) (now (words .exit)) (λ line. «op-is» line op) r ⌝ }
+    requires { Ready b p words.old }
+    ensures { TurnSays (book look.now) b p words.old words.new (λ line. op_is line op) result }
 {
     match op {
         Op::Number(s) => Ok(number(words, b, p, s)),
@@ -76,11 +58,11 @@ fn turn<L: Lookup>(look: &L, words: &mut [u32], b: Bounds, p: Place, op: Op) -> 
 
 // The walk over all operations.
 fn walk<L: Lookup>(look: &L, words: &mut [u32], b: Bounds) -> Went
-    requires line { ⌜ b .len ≤ b .base ⌝ }
-    requires room { ⌜ b .base + 25 * b .count ≤ length (now words) ⌝ }
-    ensures kept { λ _. ⌜ take («code-end» b) (now (words .exit)) ≡ take («code-end» b) (now (words .entry)) ⌝ }
-    ensures walks { λ r. ⌜ WentSays (book (now (look .entry))) b (now (words .entry)) (now (words .exit)) r ⌝ }
-    ensures says { λ r. ⌜ LineSays (book (now (look .entry))) b (now (words .entry)) (now (words .exit)) («told-of» r) ⌝ }
+    requires line { b.len ≤ b.base }
+    requires room { b.base + 25 * b.count ≤ length words.old }
+    ensures kept { take (code_end b) words.new ≡ take (code_end b) words.old }
+    ensures walks { WentSays (book look.now) b words.old words.new result }
+    ensures says { LineSays (book look.now) b words.old words.new (told_of result) }
 {
     let mut p = Place {
         height: 0,
@@ -103,7 +85,7 @@ fn walk<L: Lookup>(look: &L, words: &mut [u32], b: Bounds) -> Went
 
 // Whether there are words enough: 25 for each operation, the code's five among them, behind a base that isn't inside the line.
 fn has_room(words: usize, b: Bounds) -> bool
-    ensures { λ r. ⌜ RoomSays words b r ⌝ }
+    ensures { RoomSays words b result }
 {
     b.len <= b.base && b.base <= words && b.count <= (words - b.base) / 25
 }
@@ -111,8 +93,8 @@ fn has_room(words: usize, b: Bounds) -> bool
 // Checks a line that lies in the words with its code. What is said comes to stand behind the code, so many things as are given back;
 // what lies before that, and the code, stay as they were. Or it gives back why it stopped.
 pub fn check<L: Lookup>(look: &L, words: &mut [u32], b: Bounds) -> Result<usize, Stop>
-    ensures kept { λ _. ⌜ take («code-end» b) (now (words .exit)) ≡ take («code-end» b) (now (words .entry)) ⌝ }
-    ensures says { λ r. ⌜ CheckSays (book (now (look .entry))) b (now (words .entry)) (now (words .exit)) r ⌝ }
+    ensures kept { take (code_end b) words.new ≡ take (code_end b) words.old }
+    ensures says { CheckSays (book look.now) b words.old words.new result }
 {
     if !has_room(words.len(), b) {
         return Err(Stop::NoRoom);

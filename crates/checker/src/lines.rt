@@ -1,36 +1,20 @@
 // What a line declares or uses: files, names that are new, fields and parameters, and a def's result.
-ghost use denote.Ref.{now};
-ghost use mathlib.Core.Path.{_≡_};
-ghost use mathlib.Core.List.{[], _∷_};
-ghost use Prim.Native.Nat.{ℕ, _-_, _<_};
-ghost use lib.ListN.{take};
-ghost use Rattle·base.specs.Base.{pick, «is-some»};
-ghost use Rattle·lexer.specs.Tokens.{Tok};
-ghost use Rattle·grammar.specs.Code.{«o-use», «o-new», «o-const», «o-slot», «o-result»};
-ghost use Rattle·parser.specs.Rows.{«span-of»};
-ghost use Rattle·semantics.specs.Check.{fault as fault-of, find as found-in};
-ghost use Rattle·checker·specs.Rows.{Book, means, blamed, «verdict-said», Fits, Within};
-ghost use Rattle·checker·specs.Turns.{Ready, TurnSays};
-ghost use Rattle·checker·specs.Asks.{«file-said», TypeTurn};
-use crate::lookup::Lookup;
-use crate::lookup::Want;
-use crate::packed::BOOL;
-use crate::packed::NONE;
-use crate::packed::NUM;
-use crate::regions::Bound;
-use crate::regions::Frame;
-use crate::regions::Place;
-use crate::regions::bind;
-use crate::regions::find;
-use crate::regions::push;
-use crate::rows::Bounds;
-use crate::rows::word_of;
-use crate::said::Link;
-use crate::said::Verdict;
-use crate::said::blame;
-use crate::said::tell;
-use crate::verdict::Role;
-use crate::verdict::judge;
+ghost use Rattle.std.specs.Prelude.{◌≡◌, ℕ, ◌-◌, ◌<◌, [], ◌∷◌, take};
+ghost use Rattle.base.specs.Base.{pick, is_some};
+ghost use Rattle.lexer.specs.Tokens.{Tok};
+ghost use Rattle.grammar.specs.Code.{o_use, o_new, o_const, o_slot, o_result};
+ghost use Rattle.parser.specs.Rows.{span_of};
+ghost use Rattle.semantics.specs.Check.{fault as fault_of, find as found_in};
+ghost use Rattle.checker.specs.Rows.{Book, means, blamed, verdict_said, Fits, Within};
+ghost use Rattle.checker.specs.Turns.{Ready, TurnSays};
+ghost use Rattle.checker.specs.Asks.{file_said, TypeTurn};
+
+use crate::lookup::{Lookup, Want};
+use crate::packed::{BOOL, NONE, NUM};
+use crate::regions::{Bound, Frame, Place, bind, find, push};
+use crate::rows::{Bounds, word_of};
+use crate::said::{Link, Verdict, blame, tell};
+use crate::verdict::{Role, judge};
 use base::same_word;
 use parser::code::Span;
 
@@ -41,7 +25,7 @@ const NO_FILE: u32 = 9;
 
 // What is found of a file's name.
 fn file_verdict(is_there: bool) -> Verdict
-    ensures { λ r. ⌜ ((k : Book) (t : Tok) → «verdict-said» k t r ≡ «file-said» t «is_there») ⌝ }
+    ensures { (k : Book) (t : Tok) → verdict_said k t result ≡ file_said t is_there }
 {
     if is_there {
         Verdict {
@@ -65,8 +49,8 @@ pub fn use_file<L: Lookup>(
     p: Place,
     s: Span,
 ) -> Result<Place, Want>
-    requires { ⌜ Ready b p (now words) ⌝ }
-    ensures { λ r. ⌜ TurnSays (book (now (look .entry))) b p (now (words .entry)) (now (words .exit)) (λ line. «o-use» («span-of» line s)) r ⌝ }
+    requires { Ready b p words.old }
+    ensures { TurnSays (book look.now) b p words.old words.new (λ line. o_use (span_of line s)) result }
 {
     let Some(is_there) = look.file(words, b, s) else {
         return Err(Want::File(s));
@@ -77,7 +61,7 @@ pub fn use_file<L: Lookup>(
 
 // What is wrong with a name that may be there already.
 fn again(is_there: bool) -> u32
-    ensures { λ r. ⌜ ((m n : ℕ) → blamed r m n ≡ pick «is_there» («fault-of» m n 4 ∷ []) []) ⌝ }
+    ensures { (m n : ℕ) → blamed result m n ≡ pick is_there (fault_of m n 4 ∷ []) [] }
 {
     if is_there { DECLARED_BEFORE } else { 0 }
 }
@@ -90,8 +74,8 @@ pub fn new_name<L: Lookup>(
     p: Place,
     s: Span,
 ) -> Result<Place, Want>
-    requires { ⌜ Ready b p (now words) ⌝ }
-    ensures { λ r. ⌜ TurnSays (book (now (look .entry))) b p (now (words .entry)) (now (words .exit)) (λ line. «o-new» («span-of» line s)) r ⌝ }
+    requires { Ready b p words.old }
+    ensures { TurnSays (book look.now) b p words.old words.new (λ line. o_new (span_of line s)) result }
 {
     let Some(is_there) = look.before(words, b, s) else {
         return Err(Want::Before(s));
@@ -102,8 +86,8 @@ pub fn new_name<L: Lookup>(
 
 // Whether a name like that is bound in the line.
 fn is_bound(words: &[u32], b: Bounds, p: Place, s: Span) -> bool
-    requires { ⌜ Fits b p (now words) ⌝ }
-    ensures { λ r. ⌜ ((k : Book) → r ≡ «is-some» («found-in» (means k (take (b .len) (now (words .entry))) b p (now (words .entry)) .bound) («span-of» (take (b .len) (now (words .entry))) s .w))) ⌝ }
+    requires { Fits b p words.now }
+    ensures { (k : Book) → result ≡ is_some (found_in (means k (take b.len words.now) b p words.now).bound (span_of (take b.len words.now) s).w) }
 {
     match find(words, b, p, s) {
         Some(_) => true,
@@ -119,8 +103,8 @@ pub fn constant<L: Lookup>(
     p: Place,
     s: Span,
 ) -> Result<Place, Want>
-    requires { ⌜ Ready b p (now words) ⌝ }
-    ensures { λ r. ⌜ TurnSays (book (now (look .entry))) b p (now (words .entry)) (now (words .exit)) (λ line. «o-const» («span-of» line s)) r ⌝ }
+    requires { Ready b p words.old }
+    ensures { TurnSays (book look.now) b p words.old words.new (λ line. o_const (span_of line s)) result }
 {
     let Some(is_there) = look.before(words, b, s) else {
         return Err(Want::Before(s));
@@ -133,8 +117,8 @@ pub fn constant<L: Lookup>(
 
 // What a word is where a type has to be.
 fn type_of<L: Lookup>(look: &L, words: &[u32], b: Bounds, s: Span) -> Result<Verdict, Want>
-    requires { ⌜ Within b (now words) ⌝ }
-    ensures { λ r. ⌜ TypeTurn (book (now (look .entry)) (take (b .base) (now (words .entry)))) (take (b .len) (now (words .entry))) («span-of» (take (b .len) (now (words .entry))) s) r ⌝ }
+    requires { Within b words.now }
+    ensures { TypeTurn (book look.now (take b.base words.now)) (take b.len words.now) (span_of (take b.len words.now) s) result }
 {
     let word = word_of(words, b, s);
     if same_word(word, &[110, 117, 109]) {
@@ -166,8 +150,8 @@ pub fn slot<L: Lookup>(
     x: Span,
     ty: Span,
 ) -> Result<Place, Want>
-    requires { ⌜ Ready b p (now words) ⌝ }
-    ensures { λ r. ⌜ TurnSays (book (now (look .entry))) b p (now (words .entry)) (now (words .exit)) (λ line. «o-slot» (record { name = «span-of» line x; ty = «span-of» line ty })) r ⌝ }
+    requires { Ready b p words.old }
+    ensures { TurnSays (book look.now) b p words.old words.new (λ line. o_slot (record { name = span_of line x; ty = span_of line ty })) result }
 {
     match type_of(look, words, b, ty) {
         Ok(v) => {
@@ -189,8 +173,8 @@ pub fn result<L: Lookup>(
     p: Place,
     s: Span,
 ) -> Result<Place, Want>
-    requires { ⌜ Ready b p (now words) ⌝ }
-    ensures { λ r. ⌜ TurnSays (book (now (look .entry))) b p (now (words .entry)) (now (words .exit)) (λ line. «o-result» («span-of» line s)) r ⌝ }
+    requires { Ready b p words.old }
+    ensures { TurnSays (book look.now) b p words.old words.new (λ line. o_result (span_of line s)) result }
 {
     match type_of(look, words, b, s) {
         Ok(v) => {

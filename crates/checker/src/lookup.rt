@@ -1,13 +1,10 @@
 // What names mean, as far as it's known.
-ghost use denote.Ref.{now};
-ghost use mathlib.Core.Path.{_≡_};
-ghost use mathlib.Core.List.{List};
-ghost use Prim.Native.Nat.{ℕ};
-ghost use lib.ListN.{length, take, drop};
-ghost use Rattle·parser.specs.Rows.{«span-of»};
-ghost use Rattle·semantics.specs.Names.{«same-ty»};
-ghost use Rattle·semantics.specs.Walk.{«q-here», «q-there», «q-file», «q-before», «first-slot»};
-ghost use Rattle·checker·specs.Rows.{Book, typed, Small, SomeSmall, «ty-of», «result-is», MeaningSays, YesSays, FieldSays, Within};
+ghost use Rattle.std.specs.Prelude.{◌≡◌, ℕ, List, length, take, drop};
+ghost use Rattle.parser.specs.Rows.{span_of};
+ghost use Rattle.semantics.specs.Names.{same_ty};
+ghost use Rattle.semantics.specs.Walk.{q_here, q_there, q_file, q_before, first_slot};
+ghost use Rattle.checker.specs.Rows.{Book, typed, Small, SomeSmall, ty_of, result_is, MeaningSays, YesSays, FieldSays, Within};
+
 use crate::rows::Bounds;
 use parser::code::Span;
 
@@ -60,53 +57,53 @@ pub trait Lookup {
 
     // What a name means in the line's file.
     fn here(&self, words: &[u32], b: Bounds, name: Span) -> Option<Meaning>
-        requires { ⌜ Within b (now words) ⌝ }
-        ensures { λ r. ⌜ MeaningSays (book (now (self .entry)) (take (b .base) (now (words .entry)))) («q-here» («span-of» (take (b .len) (now (words .entry))) name .w)) r ⌝ };
+        requires { Within b words.now }
+        ensures { MeaningSays (book self.now (take b.base words.now)) (q_here (span_of (take b.len words.now) name).w) result };
 
     // What a type is.
     fn there(&self, words: &[u32], b: Bounds, ty: TypeId) -> Option<Meaning>
-        requires { ⌜ Within b (now words) ⌝ }
-        ensures { λ r. ⌜ MeaningSays (book (now (self .entry)) (take (b .base) (now (words .entry)))) («q-there» (book (now (self .entry)) (take (b .base) (now (words .entry))) .types (ty .0) .file) (book (now (self .entry)) (take (b .base) (now (words .entry))) .types (ty .0) .name)) r ⌝ };
+        requires { Within b words.now }
+        ensures { MeaningSays (book self.now (take b.base words.now)) (q_there ((book self.now (take b.base words.now)).types ty.0).file ((book self.now (take b.base words.now)).types ty.0).name) result };
 
     // Whether there is another file of that name.
     fn file(&self, words: &[u32], b: Bounds, name: Span) -> Option<bool>
-        requires { ⌜ Within b (now words) ⌝ }
-        ensures { λ r. ⌜ YesSays (book (now (self .entry)) (take (b .base) (now (words .entry)))) («q-file» («span-of» (take (b .len) (now (words .entry))) name .w)) r ⌝ };
+        requires { Within b words.now }
+        ensures { YesSays (book self.now (take b.base words.now)) (q_file (span_of (take b.len words.now) name).w) result };
 
     // Whether the line's file declares that name before the line.
     fn before(&self, words: &[u32], b: Bounds, name: Span) -> Option<bool>
-        requires { ⌜ Within b (now words) ⌝ }
-        ensures { λ r. ⌜ YesSays (book (now (self .entry)) (take (b .base) (now (words .entry)))) («q-before» («span-of» (take (b .len) (now (words .entry))) name .w)) r ⌝ };
+        requires { Within b words.now }
+        ensures { YesSays (book self.now (take b.base words.now)) (q_before (span_of (take b.len words.now) name).w) result };
 
     fn sort(&self, words: &[u32], b: Bounds, sig: SigId) -> Sort
-        requires { ⌜ Within b (now words) ⌝ }
-        ensures { λ r. ⌜ r ≡ book (now (self .entry)) (take (b .base) (now (words .entry))) .sigs (sig .0) .sort ⌝ };
+        requires { Within b words.now }
+        ensures { result ≡ ((book self.now (take b.base words.now)).sigs sig.0).sort };
 
     // The type of what is declared: of a kind or a record itself.
     fn result(&self, words: &[u32], b: Bounds, sig: SigId) -> Type
-        requires { ⌜ Within b (now words) ⌝ }
-        ensures small { λ r. ⌜ Small r ⌝ }
-        ensures is { λ r. ⌜ typed (book (now (self .entry)) (take (b .base) (now (words .entry)))) r ≡ «result-is» (book (now (self .entry)) (take (b .base) (now (words .entry))) .sigs (sig .0)) ⌝ };
+        requires { Within b words.now }
+        ensures small { Small result }
+        ensures is { typed (book self.now (take b.base words.now)) result ≡ result_is ((book self.now (take b.base words.now)).sigs sig.0) };
 
     // How many fields or parameters there are.
     fn slots(&self, words: &[u32], b: Bounds, sig: SigId) -> u32
-        requires { ⌜ Within b (now words) ⌝ }
-        ensures { λ r. ⌜ r ≡ length (book (now (self .entry)) (take (b .base) (now (words .entry))) .sigs (sig .0) .slots) ⌝ };
+        requires { Within b words.now }
+        ensures { result ≡ length ((book self.now (take b.base words.now)).sigs sig.0).slots };
 
     // The type of the one with that index.
     fn slot(&self, words: &[u32], b: Bounds, sig: SigId, index: u32) -> Type
-        requires { ⌜ Within b (now words) ⌝ }
-        ensures small { λ r. ⌜ Small r ⌝ }
-        ensures is { λ r. ⌜ typed (book (now (self .entry)) (take (b .base) (now (words .entry)))) r ≡ «first-slot» (drop index (book (now (self .entry)) (take (b .base) (now (words .entry))) .sigs (sig .0) .slots)) ⌝ };
+        requires { Within b words.now }
+        ensures small { Small result }
+        ensures is { typed (book self.now (take b.base words.now)) result ≡ first_slot (drop index ((book self.now (take b.base words.now)).sigs sig.0).slots) };
 
     // The type of the first one of that name.
     fn field(&self, words: &[u32], b: Bounds, sig: SigId, name: Span) -> Option<Type>
-        requires { ⌜ Within b (now words) ⌝ }
-        ensures small { λ r. ⌜ SomeSmall r ⌝ }
-        ensures is { λ r. ⌜ FieldSays (book (now (self .entry)) (take (b .base) (now (words .entry)))) (book (now (self .entry)) (take (b .base) (now (words .entry))) .sigs (sig .0) .slots) («span-of» (take (b .len) (now (words .entry))) name .w) r ⌝ };
+        requires { Within b words.now }
+        ensures small { SomeSmall result }
+        ensures is { FieldSays (book self.now (take b.base words.now)) ((book self.now (take b.base words.now)).sigs sig.0).slots (span_of (take b.len words.now) name).w result };
 
     // Whether two types are the same.
     fn same(&self, words: &[u32], b: Bounds, x: TypeId, y: TypeId) -> bool
-        requires { ⌜ Within b (now words) ⌝ }
-        ensures { λ r. ⌜ r ≡ «same-ty» («ty-of» (book (now (self .entry)) (take (b .base) (now (words .entry))) .types (x .0))) («ty-of» (book (now (self .entry)) (take (b .base) (now (words .entry))) .types (y .0))) ⌝ };
+        requires { Within b words.now }
+        ensures { result ≡ same_ty (ty_of ((book self.now (take b.base words.now)).types x.0)) (ty_of ((book self.now (take b.base words.now)).types y.0)) };
 }

@@ -1,8 +1,8 @@
 // Types in words: the checker keeps and tells a type as one word. Here alone they are packed and unpacked.
-ghost use mathlib.Core.Path.{_≡_};
-ghost use Rattle·checker·specs.Rows.{Book, typ, typed, Small};
-use crate::lookup::Type;
-use crate::lookup::TypeId;
+ghost use Rattle.std.specs.Prelude.{◌≡◌};
+ghost use Rattle.checker.specs.Rows.{Book, typ, typed, Small};
+
+use crate::lookup::{Type, TypeId};
 
 // The words of types: none, num, bool; from there on the lookup's types in their order.
 pub const NONE: u32 = 0;
@@ -14,8 +14,8 @@ pub const BOOL: u32 = 2;
 const FIRST: u32 = 3;
 
 pub fn pack(ty: Type) -> u32
-    requires { ⌜ Small ty ⌝ }
-    ensures { λ r. ⌜ ((k : Book) → typ k r ≡ typed k ty) ⌝ }
+    requires { Small ty }
+    ensures { (k : Book) → typ k result ≡ typed k ty }
 {
     match ty {
         Type::None => NONE,
@@ -26,7 +26,7 @@ pub fn pack(ty: Type) -> u32
 }
 
 pub fn unpack(word: u32) -> Type
-    ensures { λ r. ⌜ ((k : Book) → typed k r ≡ typ k word) ⌝ }
+    ensures { (k : Book) → typed k result ≡ typ k word }
 {
     match word {
         NONE => Type::None,

@@ -1,14 +1,10 @@
 // Frames, bound names and what was said, in words. No write can fail for want of room: its caller has seen to that.
-ghost use denote.Ref.{now};
-ghost use mathlib.Core.Path.{_≡_};
-ghost use mathlib.Core.List.{List, _∷_};
-ghost use Prim.Native.Nat.{ℕ, _+_, _*_, _-_, _<_, _≤_};
-ghost use lib.ListN.{length, take};
-ghost use Rattle·semantics.specs.Walk.{top as newest-of};
-ghost use Rattle·parser.specs.Rows.{«span-of»};
-ghost use Rattle·checker·specs.Rows.{Book, «frame-is», «bound-is», «event-is», means, «names-in», «names-at», «with-frame», «with-name», «with-said», «without-frame», «without-name», Fits, pasted, Writes, FindSays};
-use crate::rows::Bounds;
-use crate::rows::word_of;
+ghost use Rattle.std.specs.Prelude.{◌≡◌, ℕ, ◌+◌, ◌-◌, ◌*◌, ◌<◌, ◌≤◌, List, ◌∷◌, length, take};
+ghost use Rattle.semantics.specs.Walk.{top as newest-of};
+ghost use Rattle.parser.specs.Rows.{span_of};
+ghost use Rattle.checker.specs.Rows.{Book, frame_is, bound_is, event_is, means, names_in, names_at, with_frame, with_name, with_said, without_frame, without_name, Fits, pasted, Writes, FindSays};
+
+use crate::rows::{Bounds, word_of};
 use base::same_word;
 use parser::code::Span;
 
@@ -46,18 +42,18 @@ pub struct Event {
 }
 
 fn put(words: &mut [u32], at: usize, row: &[u32])
-    requires { ⌜ «at» + length (now row) ≤ length (now words) ⌝ }
-    ensures { λ _. ⌜ now (words .exit) ≡ pasted (now (words .entry)) «at» (now (row .entry)) ⌝ }
+    requires { «at» + length row.now ≤ length words.old }
+    ensures { words.new ≡ pasted words.old «at» row.now }
 {
     words[at..at + row.len()].copy_from_slice(row);
 }
 
 // One frame more.
 pub fn push(words: &mut [u32], b: Bounds, p: Place, v: Frame) -> Place
-    requires fits { ⌜ Fits b p (now words) ⌝ }
-    requires less { ⌜ p .height < b .count ⌝ }
-    ensures higher { λ r. ⌜ r .height ≡ p .height + 1 ⌝ ∗ ⌜ r .names ≡ p .names ⌝ ∗ ⌜ r .events ≡ p .events ⌝ }
-    ensures writes { λ r. ⌜ Writes b p (now (words .entry)) r (now (words .exit)) (λ k line. «with-frame» («frame-is» k v)) ⌝ }
+    requires fits { Fits b p words.old }
+    requires less { p.height < b.count }
+    ensures higher { (result.height ≡ p.height + 1) × ((result.names ≡ p.names) × (result.events ≡ p.events)) }
+    ensures writes { Writes b p words.old result words.new (λ k line. with_frame (frame_is k v)) }
 {
     put(
         words,
@@ -73,8 +69,8 @@ pub fn push(words: &mut [u32], b: Bounds, p: Place, v: Frame) -> Place
 
 // The newest frame, or a blank one where there is none; and the place without it.
 pub fn newest(words: &[u32], b: Bounds, p: Place) -> Frame
-    requires { ⌜ Fits b p (now words) ⌝ }
-    ensures { λ r. ⌜ ((k : Book) (line : List ℕ) → «frame-is» k r ≡ «newest-of» (means k line b p (now (words .entry)) .stack)) ⌝ }
+    requires { Fits b p words.now }
+    ensures { (k : Book) (line : List ℕ) → frame_is k result ≡ «newest-of» (means k line b p words.now).stack }
 {
     if p.height == 0 {
         return Frame {
@@ -97,8 +93,8 @@ pub fn newest(words: &[u32], b: Bounds, p: Place) -> Frame
 }
 
 pub fn below(p: Place) -> Place
-    ensures lower { λ r. ⌜ r .height ≤ p .height ⌝ ∗ ⌜ r .height ≤ p .height - 1 ⌝ ∗ ⌜ r .names ≡ p .names ⌝ ∗ ⌜ r .events ≡ p .events ⌝ }
-    ensures under { λ r. ⌜ ((k : Book) (line : List ℕ) (b : Bounds) (ws : List ℕ) → means k line b r ws ≡ «without-frame» (means k line b p ws)) ⌝ }
+    ensures lower { (result.height ≤ p.height) × ((result.height ≤ p.height - 1) × ((result.names ≡ p.names) × (result.events ≡ p.events))) }
+    ensures under { (k : Book) (line : List ℕ) (b : Bounds) (ws : List ℕ) → means k line b result ws ≡ without_frame (means k line b p ws) }
 {
     Place {
         height: p.height.saturating_sub(1),
@@ -109,10 +105,10 @@ pub fn below(p: Place) -> Place
 
 // One name more is bound; and the newest one no more.
 pub fn bind(words: &mut [u32], b: Bounds, p: Place, x: Bound) -> Place
-    requires fits { ⌜ Fits b p (now words) ⌝ }
-    requires less { ⌜ p .names < b .count ⌝ }
-    ensures higher { λ r. ⌜ r .height ≡ p .height ⌝ ∗ ⌜ r .names ≡ p .names + 1 ⌝ ∗ ⌜ r .events ≡ p .events ⌝ }
-    ensures writes { λ r. ⌜ Writes b p (now (words .entry)) r (now (words .exit)) (λ k line. «with-name» («bound-is» k line x)) ⌝ }
+    requires fits { Fits b p words.old }
+    requires less { p.names < b.count }
+    ensures higher { (result.height ≡ p.height) × ((result.names ≡ p.names + 1) × (result.events ≡ p.events)) }
+    ensures writes { Writes b p words.old result words.new (λ k line. with_name (bound_is k line x)) }
 {
     put(
         words,
@@ -127,8 +123,8 @@ pub fn bind(words: &mut [u32], b: Bounds, p: Place, x: Bound) -> Place
 }
 
 pub fn unbind(p: Place) -> Place
-    ensures lower { λ r. ⌜ r .height ≡ p .height ⌝ ∗ ⌜ r .names ≤ p .names ⌝ ∗ ⌜ r .events ≡ p .events ⌝ }
-    ensures under { λ r. ⌜ ((k : Book) (line : List ℕ) (b : Bounds) (ws : List ℕ) → means k line b r ws ≡ «without-name» (means k line b p ws)) ⌝ }
+    ensures lower { (result.height ≡ p.height) × ((result.names ≤ p.names) × (result.events ≡ p.events)) }
+    ensures under { (k : Book) (line : List ℕ) (b : Bounds) (ws : List ℕ) → means k line b result ws ≡ without_name (means k line b p ws) }
 {
     Place {
         height: p.height,
@@ -139,10 +135,10 @@ pub fn unbind(p: Place) -> Place
 
 // One thing more is said.
 pub fn note(words: &mut [u32], b: Bounds, p: Place, e: Event) -> Place
-    requires fits { ⌜ Fits b p (now words) ⌝ }
-    requires less { ⌜ p .events < 3 * b .count ⌝ }
-    ensures higher { λ r. ⌜ r .height ≡ p .height ⌝ ∗ ⌜ r .names ≡ p .names ⌝ ∗ ⌜ r .events ≡ p .events + 1 ⌝ }
-    ensures writes { λ r. ⌜ Writes b p (now (words .entry)) r (now (words .exit)) (λ k line. «with-said» («event-is» k line e)) ⌝ }
+    requires fits { Fits b p words.old }
+    requires less { p.events < 3 * b.count }
+    ensures higher { (result.height ≡ p.height) × ((result.names ≡ p.names) × (result.events ≡ p.events + 1)) }
+    ensures writes { Writes b p words.old result words.new (λ k line. with_said (event_is k line e)) }
 {
     put(
         words,
@@ -158,8 +154,8 @@ pub fn note(words: &mut [u32], b: Bounds, p: Place, e: Event) -> Place
 
 // The newest of n names.
 fn newest_name(words: &[u32], b: Bounds, n: usize) -> Bound
-    requires { ⌜ b .base + 25 * b .count ≤ length (now words) ⌝ ∗ ⌜ 0 < n ⌝ ∗ ⌜ n ≤ b .count ⌝ }
-    ensures { λ r. ⌜ ((k : Book) (line : List ℕ) → «names-in» k line («names-at» b) n (now (words .entry)) ≡ «bound-is» k line r ∷ «names-in» k line («names-at» b) (n - 1) (now (words .entry))) ⌝ }
+    requires { (b.base + 25 * b.count ≤ length words.now) × ((0 < n) × (n ≤ b.count)) }
+    ensures { (k : Book) (line : List ℕ) → names_in k line (names_at b) n words.now ≡ bound_is k line result ∷ names_in k line (names_at b) (n - 1) words.now }
 {
     let i = b.base + 17 * b.count + 3 * (n - 1);
     Bound {
@@ -173,8 +169,8 @@ fn newest_name(words: &[u32], b: Bounds, n: usize) -> Bound
 
 // The innermost name that is bound and written like that part of the line.
 pub fn find(words: &[u32], b: Bounds, p: Place, name: Span) -> Option<Bound>
-    requires { ⌜ Fits b p (now words) ⌝ }
-    ensures { λ r. ⌜ ((k : Book) → FindSays (means k (take (b .len) (now (words .entry))) b p (now (words .entry)) .bound) («span-of» (take (b .len) (now (words .entry))) name .w) («bound-is» k (take (b .len) (now (words .entry)))) r) ⌝ }
+    requires { Fits b p words.now }
+    ensures { (k : Book) → FindSays (means k (take b.len words.now) b p words.now).bound (span_of (take b.len words.now) name).w (bound_is k (take b.len words.now)) result }
 {
     let mut n = p.names;
     while n > 0 {

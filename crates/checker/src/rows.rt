@@ -1,9 +1,7 @@
 // Where a line and its code lie in a row of words, and the words of the line's parts.
-ghost use denote.Ref.{now};
-ghost use mathlib.Core.Path.{_≡_};
-ghost use Prim.Native.Nat.{_≤_};
-ghost use lib.ListN.{length, take};
-ghost use Rattle·parser.specs.Rows.{«span-of»};
+ghost use Rattle.std.specs.Prelude.{◌≡◌, ◌≤◌, length, take};
+ghost use Rattle.parser.specs.Rows.{span_of};
+
 use parser::code::Span;
 
 // The line is the first len words, its code goes from word base on, so many operations.
@@ -16,8 +14,8 @@ pub struct Bounds {
 
 // A part of the first so many words; of one that doesn't lie in them, as much as does.
 fn part_of(words: &[u32], len: usize, s: Span) -> &[u32]
-    requires { ⌜ len ≤ length (now words) ⌝ }
-    ensures { λ r. ⌜ now r ≡ «span-of» (take len (now (words .entry))) s .w ⌝ }
+    requires { len ≤ length words.now }
+    ensures { result.now ≡ (span_of (take len words.now) s).w }
 {
     let from = (s.from as usize).min(len);
     let to = (s.to as usize).min(len).max(from);
@@ -26,8 +24,8 @@ fn part_of(words: &[u32], len: usize, s: Span) -> &[u32]
 
 // The word of a part of the line.
 pub fn word_of(words: &[u32], b: Bounds, s: Span) -> &[u32]
-    requires { ⌜ b .len ≤ length (now words) ⌝ }
-    ensures { λ r. ⌜ now r ≡ «span-of» (take (b .len) (now (words .entry))) s .w ⌝ }
+    requires { b.len ≤ length words.now }
+    ensures { result.now ≡ (span_of (take b.len words.now) s).w }
 {
     part_of(words, b.len, s)
 }

@@ -1,19 +1,13 @@
 // What is said: faults, links, types, and values with their types.
-ghost use denote.Ref.{now};
-ghost use mathlib.Core.Path.{_≡_};
-ghost use mathlib.Core.List.{[]};
-ghost use mathlib.Core.Option.{none};
-ghost use Prim.Native.Nat.{_+_, _*_, _-_, _<_, _≤_};
-ghost use Rattle·parser.specs.Rows.{«span-of»};
-ghost use Rattle·semantics.specs.Check.{said};
-ghost use Rattle·checker·specs.Rows.{typ, «with-said», «noted-type», blamed, «links-is», «verdict-said», valued, Fits, Writes};
+ghost use Rattle.std.specs.Prelude.{◌≡◌, ◌+◌, ◌-◌, ◌*◌, ◌<◌, ◌≤◌, []};
+ghost use Rattle.std.proofs.Math.Option.{none};
+ghost use Rattle.parser.specs.Rows.{span_of};
+ghost use Rattle.semantics.specs.Check.{said};
+ghost use Rattle.checker.specs.Rows.{typ, with_said, noted_type, blamed, links_is, verdict_said, valued, Fits, Writes};
+
 use crate::lookup::SigId;
 use crate::packed::NONE;
-use crate::regions::Event;
-use crate::regions::Frame;
-use crate::regions::Place;
-use crate::regions::note;
-use crate::regions::push;
+use crate::regions::{Event, Frame, Place, note, push};
 use crate::rows::Bounds;
 use parser::code::Span;
 
@@ -47,10 +41,10 @@ const FILE: u32 = 4;
 
 // A fault of that number, or none where it is 0.
 pub fn blame(words: &mut [u32], b: Bounds, p: Place, span: Span, number: u32) -> Place
-    requires fits { ⌜ Fits b p (now words) ⌝ }
-    requires less { ⌜ p .events < 3 * b .count ⌝ }
-    ensures few { λ r. ⌜ r .height ≡ p .height ⌝ ∗ ⌜ r .names ≡ p .names ⌝ ∗ ⌜ r .events ≤ p .events + 1 ⌝ }
-    ensures writes { λ r. ⌜ Writes b p (now (words .entry)) r (now (words .exit)) (λ k line. «with-said» (said none (blamed number (span .from) (span .to)) [] [])) ⌝ }
+    requires fits { Fits b p words.old }
+    requires less { p.events < 3 * b.count }
+    ensures few { (result.height ≡ p.height) × ((result.names ≡ p.names) × (result.events ≤ p.events + 1)) }
+    ensures writes { Writes b p words.old result words.new (λ k line. with_said (said none (blamed number span.from span.to) [] [])) }
 {
     if number == 0 {
         return p;
@@ -69,10 +63,10 @@ pub fn blame(words: &mut [u32], b: Bounds, p: Place, span: Span, number: u32) ->
 
 // A link.
 fn note_link(words: &mut [u32], b: Bounds, p: Place, span: Span, to: Link) -> Place
-    requires fits { ⌜ Fits b p (now words) ⌝ }
-    requires less { ⌜ p .events < 3 * b .count ⌝ }
-    ensures few { λ r. ⌜ r .height ≡ p .height ⌝ ∗ ⌜ r .names ≡ p .names ⌝ ∗ ⌜ r .events ≤ p .events + 1 ⌝ }
-    ensures writes { λ r. ⌜ Writes b p (now (words .entry)) r (now (words .exit)) (λ k line. «with-said» (said none [] [] («links-is» k («span-of» line span) to))) ⌝ }
+    requires fits { Fits b p words.old }
+    requires less { p.events < 3 * b.count }
+    ensures few { (result.height ≡ p.height) × ((result.names ≡ p.names) × (result.events ≤ p.events + 1)) }
+    ensures writes { Writes b p words.old result words.new (λ k line. with_said (said none [] [] (links_is k (span_of line span) to))) }
 {
     match to {
         Link::No => p,
@@ -111,10 +105,10 @@ fn note_link(words: &mut [u32], b: Bounds, p: Place, span: Span, to: Link) -> Pl
 
 // What was found of a name.
 pub fn tell(words: &mut [u32], b: Bounds, p: Place, span: Span, v: Verdict) -> Place
-    requires fits { ⌜ Fits b p (now words) ⌝ }
-    requires less { ⌜ p .events + 1 < 3 * b .count ⌝ }
-    ensures few { λ r. ⌜ r .height ≡ p .height ⌝ ∗ ⌜ r .names ≡ p .names ⌝ ∗ ⌜ r .events ≤ p .events + 2 ⌝ }
-    ensures writes { λ r. ⌜ Writes b p (now (words .entry)) r (now (words .exit)) (λ k line. «with-said» («verdict-said» k («span-of» line span) v)) ⌝ }
+    requires fits { Fits b p words.old }
+    requires less { p.events + 1 < 3 * b.count }
+    ensures few { (result.height ≡ p.height) × ((result.names ≡ p.names) × (result.events ≤ p.events + 2)) }
+    ensures writes { Writes b p words.old result words.new (λ k line. with_said (verdict_said k (span_of line span) v)) }
 {
     let q = blame(words, b, p, span, v.fault);
     note_link(words, b, q, span, v.link)
@@ -122,10 +116,10 @@ pub fn tell(words: &mut [u32], b: Bounds, p: Place, span: Span, v: Verdict) -> P
 
 // The type of an expression, if it has one.
 fn note_type(words: &mut [u32], b: Bounds, p: Place, span: Span, ty: u32) -> Place
-    requires fits { ⌜ Fits b p (now words) ⌝ }
-    requires less { ⌜ p .events < 3 * b .count ⌝ }
-    ensures few { λ r. ⌜ r .height ≡ p .height ⌝ ∗ ⌜ r .names ≡ p .names ⌝ ∗ ⌜ r .events ≤ p .events + 1 ⌝ }
-    ensures writes { λ r. ⌜ Writes b p (now (words .entry)) r (now (words .exit)) (λ k line. «with-said» («noted-type» (span .from) (span .to) (typ k ty))) ⌝ }
+    requires fits { Fits b p words.old }
+    requires less { p.events < 3 * b.count }
+    ensures few { (result.height ≡ p.height) × ((result.names ≡ p.names) × (result.events ≤ p.events + 1)) }
+    ensures writes { Writes b p words.old result words.new (λ k line. with_said (noted_type span.from span.to (typ k ty))) }
 {
     if ty == NONE {
         return p;
@@ -144,10 +138,10 @@ fn note_type(words: &mut [u32], b: Bounds, p: Place, span: Span, ty: u32) -> Pla
 
 // A value, and its type noted.
 pub fn value(words: &mut [u32], b: Bounds, p: Place, span: Span, ty: u32) -> Place
-    requires fits { ⌜ Fits b p (now words) ⌝ }
-    requires less { ⌜ p .events < 3 * b .count ⌝ ∗ ⌜ p .height < b .count ⌝ }
-    ensures few { λ r. ⌜ r .height ≡ p .height + 1 ⌝ ∗ ⌜ r .names ≡ p .names ⌝ ∗ ⌜ r .events ≤ p .events + 1 ⌝ }
-    ensures writes { λ r. ⌜ Writes b p (now (words .entry)) r (now (words .exit)) (λ k line. valued (span .from) (span .to) (typ k ty)) ⌝ }
+    requires fits { Fits b p words.old }
+    requires less { (p.events < 3 * b.count) × (p.height < b.count) }
+    ensures few { (result.height ≡ p.height + 1) × ((result.names ≡ p.names) × (result.events ≤ p.events + 1)) }
+    ensures writes { Writes b p words.old result words.new (λ k line. valued span.from span.to (typ k ty)) }
 {
     let q = note_type(words, b, p, span, ty);
     push(

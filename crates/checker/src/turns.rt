@@ -1,37 +1,20 @@
 // One turn for each operation. Whatever has to be looked up is looked up before anything is written.
-ghost use denote.Ref.{now};
-ghost use mathlib.Core.Path.{_≡_};
-ghost use mathlib.Core.List.{List, _++_};
-ghost use Prim.Native.Nat.{ℕ, _+_, _*_, _-_, _<_, _≤_};
-ghost use lib.ListN.{take};
-ghost use Rattle·lexer.specs.Kinds.{operator};
-ghost use Rattle·grammar.specs.Code.{«o-num», «o-arg», «o-end», «o-op», «o-cond», «o-if», «o-bind», «o-let», «o-par», «o-body», «o-bad»};
-ghost use Rattle·parser.specs.Rows.{«span-of»};
-ghost use mathlib.Core.Option.{some};
-ghost use Rattle·semantics.specs.Check.{«of-slot», «op-type»};
-ghost use Rattle·semantics.specs.Walk.{tells};
-ghost use Rattle·checker·specs.Rows.{Book, typ, means, «code-end», «with-said», Fits};
-ghost use Rattle·checker·specs.Turns.{Ready, Goes, «operand-word»};
-use crate::lookup::Lookup;
-use crate::lookup::Want;
-use crate::packed::BOOL;
-use crate::packed::NONE;
-use crate::packed::NUM;
-use crate::regions::Bound;
-use crate::regions::Frame;
-use crate::regions::Place;
-use crate::regions::below;
-use crate::regions::bind;
-use crate::regions::newest;
-use crate::regions::push;
-use crate::regions::unbind;
+ghost use Rattle.std.specs.Prelude.{◌≡◌, ℕ, ◌+◌, ◌-◌, ◌*◌, ◌<◌, ◌≤◌, List, ◌++◌, take};
+ghost use Rattle.lexer.specs.Kinds.{operator};
+ghost use Rattle.grammar.specs.Code.{o_num, o_arg, o_end, o_op, o_cond, o_if, o_bind, o_let, o_par, o_body, o_bad};
+ghost use Rattle.parser.specs.Rows.{span_of};
+ghost use Rattle.std.proofs.Math.Option.{some};
+ghost use Rattle.semantics.specs.Check.{of_slot, op_type};
+ghost use Rattle.semantics.specs.Walk.{tells};
+ghost use Rattle.checker.specs.Rows.{Book, typ, means, code_end, with_said, Fits};
+ghost use Rattle.checker.specs.Turns.{Ready, Goes, operand_word};
+
+use crate::lookup::{Lookup, Want};
+use crate::packed::{BOOL, NONE, NUM};
+use crate::regions::{Bound, Frame, Place, below, bind, newest, push, unbind};
 use crate::rows::Bounds;
-use crate::said::blame;
-use crate::said::value;
-use crate::types::clash;
-use crate::types::either;
-use crate::types::next_of;
-use crate::types::wanted_by;
+use crate::said::{blame, value};
+use crate::types::{clash, either, next_of, wanted_by};
 use lexer::token::Operator;
 use parser::code::Span;
 
@@ -39,16 +22,16 @@ use parser::code::Span;
 const NOT_UNDERSTOOD: u32 = 1;
 
 pub fn number(words: &mut [u32], b: Bounds, p: Place, s: Span) -> Place
-    requires { ⌜ Ready b p (now words) ⌝ }
-    ensures { λ r. ⌜ ((k : List ℕ → Book) → Goes k b p (now (words .entry)) r (now (words .exit)) (λ line. «o-num» («span-of» line s))) ⌝ }
+    requires { Ready b p words.old }
+    ensures { (k : List ℕ → Book) → Goes k b p words.old result words.new (λ line. o_num (span_of line s)) }
 {
     value(words, b, p, s, NUM)
 }
 
 // A call ends.
 pub fn end(words: &mut [u32], b: Bounds, p: Place, to: u32) -> Place
-    requires { ⌜ Ready b p (now words) ⌝ }
-    ensures { λ r. ⌜ ((k : List ℕ → Book) → Goes k b p (now (words .entry)) r (now (words .exit)) (λ line. «o-end» to)) ⌝ }
+    requires { Ready b p words.old }
+    ensures { (k : List ℕ → Book) → Goes k b p words.old result words.new (λ line. o_end to) }
 {
     let call = newest(words, b, p);
     value(
@@ -64,8 +47,8 @@ pub fn end(words: &mut [u32], b: Bounds, p: Place, to: u32) -> Place
 }
 
 pub fn brackets(words: &mut [u32], b: Bounds, p: Place, s: Span) -> Place
-    requires { ⌜ Ready b p (now words) ⌝ }
-    ensures { λ r. ⌜ ((k : List ℕ → Book) → Goes k b p (now (words .entry)) r (now (words .exit)) (λ line. «o-par» (s .from) (s .to))) ⌝ }
+    requires { Ready b p words.old }
+    ensures { (k : List ℕ → Book) → Goes k b p words.old result words.new (λ line. o_par s.from s.to) }
 {
     let v = newest(words, b, p);
     push(
@@ -83,8 +66,8 @@ pub fn brackets(words: &mut [u32], b: Bounds, p: Place, s: Span) -> Place
 
 // A let's name gets its value.
 pub fn bound(words: &mut [u32], b: Bounds, p: Place, s: Span) -> Place
-    requires { ⌜ Ready b p (now words) ⌝ }
-    ensures { λ r. ⌜ ((k : List ℕ → Book) → Goes k b p (now (words .entry)) r (now (words .exit)) (λ line. «o-bind» («span-of» line s))) ⌝ }
+    requires { Ready b p words.old }
+    ensures { (k : List ℕ → Book) → Goes k b p words.old result words.new (λ line. o_bind (span_of line s)) }
 {
     let v = newest(words, b, p);
     bind(words, b, below(p), Bound { span: s, ty: v.ty })
@@ -92,8 +75,8 @@ pub fn bound(words: &mut [u32], b: Bounds, p: Place, s: Span) -> Place
 
 // A let that began there ends.
 pub fn end_let(words: &mut [u32], b: Bounds, p: Place, from: u32) -> Place
-    requires { ⌜ Ready b p (now words) ⌝ }
-    ensures { λ r. ⌜ ((k : List ℕ → Book) → Goes k b p (now (words .entry)) r (now (words .exit)) (λ line. «o-let» from)) ⌝ }
+    requires { Ready b p words.old }
+    ensures { (k : List ℕ → Book) → Goes k b p words.old result words.new (λ line. o_let from) }
 {
     let v = newest(words, b, p);
     value(
@@ -109,15 +92,15 @@ pub fn end_let(words: &mut [u32], b: Bounds, p: Place, from: u32) -> Place
 }
 
 pub fn misread(words: &mut [u32], b: Bounds, p: Place, s: Span) -> Place
-    requires { ⌜ Ready b p (now words) ⌝ }
-    ensures { λ r. ⌜ ((k : List ℕ → Book) → Goes k b p (now (words .entry)) r (now (words .exit)) (λ line. «o-bad» (s .from) (s .to))) ⌝ }
+    requires { Ready b p words.old }
+    ensures { (k : List ℕ → Book) → Goes k b p words.old result words.new (λ line. o_bad s.from s.to) }
 {
     blame(words, b, p, s, NOT_UNDERSTOOD)
 }
 
 pub fn condition<L: Lookup>(look: &L, words: &mut [u32], b: Bounds, p: Place) -> Place
-    requires { ⌜ Ready b p (now words) ⌝ }
-    ensures { λ r. ⌜ Goes (book (now (look .entry))) b p (now (words .entry)) r (now (words .exit)) (λ line. «o-cond») ⌝ }
+    requires { Ready b p words.old }
+    ensures { Goes (book look.now) b p words.old result words.new (λ line. o_cond) }
 {
     let v = newest(words, b, p);
     let wrong = clash(look, words, b, BOOL, v.ty);
@@ -134,11 +117,11 @@ fn operands<L: Lookup>(
     x: Frame,
     y: Frame,
 ) -> Place
-    requires fits { ⌜ Fits b p (now words) ⌝ }
-    requires less { ⌜ p .events + 1 < 3 * b .count ⌝ }
-    ensures few { λ r. ⌜ r .height ≡ p .height ⌝ ∗ ⌜ r .names ≡ p .names ⌝ ∗ ⌜ r .events ≤ p .events + 2 ⌝ }
-    ensures before { λ r. ⌜ take («code-end» b) (now (words .exit)) ≡ take («code-end» b) (now (words .entry)) ⌝ }
-    ensures becomes { λ r. ⌜ ((line : List ℕ) → means (book (now (look .entry)) (take (b .base) (now (words .entry)))) line b r (now (words .exit)) ≡ «with-said» (tells («of-slot» (typ (book (now (look .entry)) (take (b .base) (now (words .entry)))) wanted) (x .span .from) (x .span .to) (typ (book (now (look .entry)) (take (b .base) (now (words .entry)))) (x .ty)) ++ «of-slot» (typ (book (now (look .entry)) (take (b .base) (now (words .entry)))) wanted) (y .span .from) (y .span .to) (typ (book (now (look .entry)) (take (b .base) (now (words .entry)))) (y .ty)))) (means (book (now (look .entry)) (take (b .base) (now (words .entry)))) line b p (now (words .entry)))) ⌝ }
+    requires fits { Fits b p words.old }
+    requires less { p.events + 1 < 3 * b.count }
+    ensures few { (result.height ≡ p.height) × ((result.names ≡ p.names) × (result.events ≤ p.events + 2)) }
+    ensures before { take (code_end b) words.new ≡ take (code_end b) words.old }
+    ensures becomes { (line : List ℕ) → means (book look.now (take b.base words.old)) line b result words.new ≡ with_said (tells (of_slot (typ (book look.now (take b.base words.old)) wanted) x.span.from x.span.to (typ (book look.now (take b.base words.old)) x.ty) ++ of_slot (typ (book look.now (take b.base words.old)) wanted) y.span.from y.span.to (typ (book look.now (take b.base words.old)) y.ty))) (means (book look.now (take b.base words.old)) line b p words.old) }
 {
     let first = clash(look, words, b, wanted, x.ty);
     let second = clash(look, words, b, wanted, y.ty);
@@ -148,7 +131,7 @@ fn operands<L: Lookup>(
 
 // What both operands of an operator have to be, where that is the same for each of its uses; and what it comes to.
 fn operand_type(o: Operator) -> u32
-    ensures { λ r. ⌜ r ≡ «operand-word» (operator o) ⌝ }
+    ensures { result ≡ operand_word (operator o) }
 {
     match o {
         Operator::Plus | Operator::Minus | Operator::Times | Operator::Less => NUM,
@@ -158,7 +141,7 @@ fn operand_type(o: Operator) -> u32
 }
 
 fn result_type(o: Operator) -> u32
-    ensures { λ r. ⌜ ((k : Book) → typ k r ≡ some («op-type» (operator o))) ⌝ }
+    ensures { (k : Book) → typ k result ≡ some (op_type (operator o)) }
 {
     match o {
         Operator::Plus | Operator::Minus | Operator::Times => NUM,
@@ -167,8 +150,8 @@ fn result_type(o: Operator) -> u32
 }
 
 pub fn operation<L: Lookup>(look: &L, words: &mut [u32], b: Bounds, p: Place, o: Operator) -> Place
-    requires { ⌜ Ready b p (now words) ⌝ }
-    ensures { λ r. ⌜ Goes (book (now (look .entry))) b p (now (words .entry)) r (now (words .exit)) (λ line. «o-op» (operator o)) ⌝ }
+    requires { Ready b p words.old }
+    ensures { Goes (book look.now) b p words.old result words.new (λ line. o_op (operator o)) }
 {
     let right = newest(words, b, p);
     let under = below(p);
@@ -193,8 +176,8 @@ pub fn operation<L: Lookup>(look: &L, words: &mut [u32], b: Bounds, p: Place, o:
 
 // An if that began there ends.
 pub fn choice<L: Lookup>(look: &L, words: &mut [u32], b: Bounds, p: Place, from: u32) -> Place
-    requires { ⌜ Ready b p (now words) ⌝ }
-    ensures { λ r. ⌜ Goes (book (now (look .entry))) b p (now (words .entry)) r (now (words .exit)) (λ line. «o-if» from) ⌝ }
+    requires { Ready b p words.old }
+    ensures { Goes (book look.now) b p words.old result words.new (λ line. o_if from) }
 {
     let second = newest(words, b, p);
     let under = below(p);
@@ -216,8 +199,8 @@ pub fn choice<L: Lookup>(look: &L, words: &mut [u32], b: Bounds, p: Place, from:
 }
 
 pub fn argument<L: Lookup>(look: &L, words: &mut [u32], b: Bounds, p: Place) -> Place
-    requires { ⌜ Ready b p (now words) ⌝ }
-    ensures { λ r. ⌜ Goes (book (now (look .entry))) b p (now (words .entry)) r (now (words .exit)) (λ line. «o-arg») ⌝ }
+    requires { Ready b p words.old }
+    ensures { Goes (book look.now) b p words.old result words.new (λ line. o_arg) }
 {
     let v = newest(words, b, p);
     let under = below(p);
@@ -242,8 +225,8 @@ pub fn argument<L: Lookup>(look: &L, words: &mut [u32], b: Bounds, p: Place) -> 
 
 // The end of a def's body, held against its result.
 pub fn body<L: Lookup>(look: &L, words: &mut [u32], b: Bounds, p: Place) -> Place
-    requires { ⌜ Ready b p (now words) ⌝ }
-    ensures { λ r. ⌜ Goes (book (now (look .entry))) b p (now (words .entry)) r (now (words .exit)) (λ line. «o-body») ⌝ }
+    requires { Ready b p words.old }
+    ensures { Goes (book look.now) b p words.old result words.new (λ line. o_body) }
 {
     let v = newest(words, b, p);
     let under = below(p);

@@ -1,18 +1,12 @@
 // Types held against each other, and the slots of a call that begun.
-ghost use denote.Ref.{now};
-ghost use mathlib.Core.Path.{_≡_};
-ghost use Prim.Native.Nat.{ℕ, _+_, _-_, _<_};
-ghost use lib.ListN.{take};
-ghost use Rattle·base.specs.Base.{«or-else»};
-ghost use Rattle·semantics.specs.Check.{«of-slot»};
-ghost use Rattle·semantics.specs.Walk.{«first-slot», pop as others};
-ghost use Rattle·checker·specs.Rows.{Book, typ, typed, «slots-left», blamed, Within};
-use crate::lookup::Lookup;
-use crate::lookup::SigId;
-use crate::lookup::Type;
-use crate::packed::NONE;
-use crate::packed::pack;
-use crate::packed::unpack;
+ghost use Rattle.std.specs.Prelude.{◌≡◌, ℕ, ◌+◌, ◌-◌, ◌<◌, take};
+ghost use Rattle.base.specs.Base.{or_else};
+ghost use Rattle.semantics.specs.Check.{of_slot};
+ghost use Rattle.semantics.specs.Walk.{first_slot, pop as others};
+ghost use Rattle.checker.specs.Rows.{Book, typ, typed, slots_left, blamed, Within};
+
+use crate::lookup::{Lookup, SigId, Type};
+use crate::packed::{NONE, pack, unpack};
 use crate::regions::Frame;
 use crate::rows::Bounds;
 
@@ -21,8 +15,8 @@ const ANOTHER: u32 = 5;
 
 // What is wrong with something of one type where another is wanted: nothing where one of them isn't known.
 fn type_clash<L: Lookup>(look: &L, words: &[u32], b: Bounds, wanted: Type, is: Type) -> u32
-    requires { ⌜ Within b (now words) ⌝ }
-    ensures { λ r. ⌜ ((m n : ℕ) → «of-slot» (typed (book (now (look .entry)) (take (b .base) (now (words .entry)))) wanted) m n (typed (book (now (look .entry)) (take (b .base) (now (words .entry)))) «is») ≡ blamed r m n) ⌝ }
+    requires { Within b words.now }
+    ensures { (m n : ℕ) → of_slot (typed (book look.now (take b.base words.now)) wanted) m n (typed (book look.now (take b.base words.now)) «is») ≡ blamed result m n }
 {
     let fits = match (wanted, is) {
         (Type::None, _) | (_, Type::None) => true,
@@ -35,23 +29,23 @@ fn type_clash<L: Lookup>(look: &L, words: &[u32], b: Bounds, wanted: Type, is: T
 
 // The same of types by their words.
 pub fn clash<L: Lookup>(look: &L, words: &[u32], b: Bounds, wanted: u32, is: u32) -> u32
-    requires { ⌜ Within b (now words) ⌝ }
-    ensures { λ r. ⌜ ((m n : ℕ) → «of-slot» (typ (book (now (look .entry)) (take (b .base) (now (words .entry)))) wanted) m n (typ (book (now (look .entry)) (take (b .base) (now (words .entry)))) «is») ≡ blamed r m n) ⌝ }
+    requires { Within b words.now }
+    ensures { (m n : ℕ) → of_slot (typ (book look.now (take b.base words.now)) wanted) m n (typ (book look.now (take b.base words.now)) «is») ≡ blamed result m n }
 {
     type_clash(look, words, b, unpack(wanted), unpack(is))
 }
 
 // The first of two types that is known.
 pub fn either(x: u32, y: u32) -> u32
-    ensures { λ r. ⌜ ((k : Book) → typ k r ≡ «or-else» (typ k x) (typ k y)) ⌝ }
+    ensures { (k : Book) → typ k result ≡ or_else (typ k x) (typ k y) }
 {
     if x == NONE { y } else { x }
 }
 
 // What the next slot of a call wants, and which is next behind it.
 pub fn wanted_by<L: Lookup>(look: &L, words: &[u32], b: Bounds, v: Frame) -> u32
-    requires { ⌜ Within b (now words) ⌝ }
-    ensures { λ r. ⌜ typ (book (now (look .entry)) (take (b .base) (now (words .entry)))) r ≡ «first-slot» («slots-left» (book (now (look .entry)) (take (b .base) (now (words .entry)))) (v .sig) (v .next)) ⌝ }
+    requires { Within b words.now }
+    ensures { typ (book look.now (take b.base words.now)) result ≡ first_slot (slots_left (book look.now (take b.base words.now)) v.sig v.next) }
 {
     if v.next == 0 {
         return NONE;
@@ -60,8 +54,8 @@ pub fn wanted_by<L: Lookup>(look: &L, words: &[u32], b: Bounds, v: Frame) -> u32
 }
 
 pub fn next_of<L: Lookup>(look: &L, words: &[u32], b: Bounds, v: Frame) -> u32
-    requires { ⌜ Within b (now words) ⌝ }
-    ensures { λ r. ⌜ «slots-left» (book (now (look .entry)) (take (b .base) (now (words .entry)))) (v .sig) r ≡ others («slots-left» (book (now (look .entry)) (take (b .base) (now (words .entry)))) (v .sig) (v .next)) ⌝ }
+    requires { Within b words.now }
+    ensures { slots_left (book look.now (take b.base words.now)) v.sig result ≡ others (slots_left (book look.now (take b.base words.now)) v.sig v.next) }
 {
     if v.next == 0 {
         return 0;

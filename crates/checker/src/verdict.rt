@@ -1,20 +1,13 @@
 // What is found of a name that means something declared, or nothing, or several things.
-ghost use denote.Ref.{now};
-ghost use mathlib.Core.Path.{_≡_};
-ghost use Prim.Native.Nat.{_-_, _<_};
-ghost use lib.ListN.{take};
-ghost use Rattle·lexer.specs.Tokens.{Tok};
-ghost use Rattle·checker·specs.Rows.{«verdict-said», «meaning-is», «sig-is», Within};
-ghost use Rattle·checker·specs.Turns.{«role-fits», «role-said»};
-use crate::lookup::Lookup;
-use crate::lookup::Meaning;
-use crate::lookup::SigId;
-use crate::lookup::Sort;
-use crate::packed::NONE;
-use crate::packed::pack;
+ghost use Rattle.std.specs.Prelude.{◌≡◌, ◌-◌, ◌<◌, take};
+ghost use Rattle.lexer.specs.Tokens.{Tok};
+ghost use Rattle.checker.specs.Rows.{verdict_said, meaning_is, sig_is, Within};
+ghost use Rattle.checker.specs.Turns.{role_fits, role_said};
+
+use crate::lookup::{Lookup, Meaning, SigId, Sort};
+use crate::packed::{NONE, pack};
 use crate::rows::Bounds;
-use crate::said::Link;
-use crate::said::Verdict;
+use crate::said::{Link, Verdict};
 
 // How a name is used: alone, in a call, or as a type.
 #[derive(Clone, Copy)]
@@ -32,7 +25,7 @@ const SEVERAL: u32 = 3;
 pub const MISPLACED: u32 = 8;
 
 pub fn role_fits(role: Role, sort: Sort) -> bool
-    ensures { λ r. ⌜ r ≡ «role-fits» role «sort» ⌝ }
+    ensures { result ≡ role_fits role sort }
 {
     match role {
         Role::Alone => matches!(sort, Sort::Const),
@@ -42,8 +35,8 @@ pub fn role_fits(role: Role, sort: Sort) -> bool
 }
 
 fn judge_found<L: Lookup>(look: &L, words: &[u32], b: Bounds, sig: SigId, role: Role) -> Verdict
-    requires { ⌜ Within b (now words) ⌝ }
-    ensures { λ r. ⌜ ((t : Tok) → «verdict-said» (book (now (look .entry)) (take (b .base) (now (words .entry)))) t r ≡ «role-said» role t («sig-is» (book (now (look .entry)) (take (b .base) (now (words .entry))) .sigs (sig .0)))) ⌝ }
+    requires { Within b words.now }
+    ensures { (t : Tok) → verdict_said (book look.now (take b.base words.now)) t result ≡ role_said role t (sig_is ((book look.now (take b.base words.now)).sigs sig.0)) }
 {
     let link = Link::Declared(sig);
     let ty = pack(look.result(words, b, sig));
@@ -59,8 +52,8 @@ fn judge_found<L: Lookup>(look: &L, words: &[u32], b: Bounds, sig: SigId, role: 
 }
 
 pub fn judge<L: Lookup>(look: &L, words: &[u32], b: Bounds, m: Meaning, role: Role) -> Verdict
-    requires { ⌜ Within b (now words) ⌝ }
-    ensures { λ r. ⌜ ((t : Tok) → «verdict-said» (book (now (look .entry)) (take (b .base) (now (words .entry)))) t r ≡ «role-said» role t («meaning-is» (book (now (look .entry)) (take (b .base) (now (words .entry)))) m)) ⌝ }
+    requires { Within b words.now }
+    ensures { (t : Tok) → verdict_said (book look.now (take b.base words.now)) t result ≡ role_said role t (meaning_is (book look.now (take b.base words.now)) m) }
 {
     match m {
         Meaning::Found(sig) => judge_found(look, words, b, sig, role),

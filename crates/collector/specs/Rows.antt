@@ -1,10 +1,7 @@
 -- Words of a row: which of them were written, and what stands in them.
-use mathlib.Core.Path.{_≡_}
-use mathlib.Core.List.{List}
-use Prim.Native.Nat.{ℕ, _+_, _-_, _≤_, _<_}
-use lib.ListN.{length, take, drop}
-use Rattle·symbols.specs.Table.{word}
-use Rattle·collector·specs.declared.Layout.{Layout}
+use Rattle.std.specs.Prelude.{◌≡◌, ℕ, ◌+◌, ◌-◌, ◌<◌, ◌≤◌, List, length, take, drop}
+use Rattle.symbols.specs.Table.{word}
+use Rattle.collector.specs.declared.Layout.{Layout}
 
 -- only words between two places were written
 pub record Wrote (from to : ℕ) (ws vs : List ℕ) : Type 0 where
@@ -15,8 +12,8 @@ pub record Wrote (from to : ℕ) (ws vs : List ℕ) : Type 0 where
 -- of the words from the texts on to the room to work in, only those between two places were written
 pub record Kept (l : Layout) (from to : ℕ) (ws vs : List ℕ) : Type 0 where
   pub long : length vs ≡ length ws
-  pub before : (i : ℕ) → l .texts ≤ i → i < from → word vs i ≡ word ws i
-  pub behind : (i : ℕ) → to ≤ i → i < l .work → word vs i ≡ word ws i
+  pub before : (i : ℕ) → l.texts ≤ i → i < from → word vs i ≡ word ws i
+  pub behind : (i : ℕ) → to ≤ i → i < l.work → word vs i ≡ word ws i
 
 -- these words stand there
 pub record Held (ws : List ℕ) («at» : ℕ) (xs : List ℕ) : Type 0 where
@@ -25,11 +22,11 @@ pub record Held (ws : List ℕ) («at» : ℕ) (xs : List ℕ) : Type 0 where
 
 -- the parts of the row lie one behind the other, and places fit into words
 pub record InOrder (l : Layout) (ws : List ℕ) : Type 0 where
-  pub slot : l .texts ≤ l .index
-  pub table : l .index ≤ l .work
-  pub row : l .work ≤ length ws
+  pub slot : l.texts ≤ l.index
+  pub table : l.index ≤ l.work
+  pub row : l.work ≤ length ws
   pub small : length ws < 4294967296
 
 -- the texts' words
-abbrev pub texts-in : Layout → List ℕ → List ℕ
-texts-in l ws = take (l .index - l .texts) (drop (l .texts) ws)
+abbrev pub texts_in : Layout → List ℕ → List ℕ
+texts_in l ws = take (l.index - l.texts) (drop l.texts ws)

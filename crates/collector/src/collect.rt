@@ -1,19 +1,14 @@
 // Files one after the other, and the whole table.
-ghost use denote.Ref.{now};
-ghost use mathlib.Core.Path.{_≡_};
-ghost use Prim.Native.Nat.{_+_, _-_, _*_, _<_, _≤_};
-ghost use lib.ListN.{length, take, drop};
-ghost use Rattle·std.specs.Finite.{nth};
-ghost use Rattle·std.specs.declared.option.Option.the-variants.{Some};
-ghost use Rattle·semantics.specs.Names.{File as Meant};
-ghost use Rattle·collector·specs.Rows.{InOrder, «texts-in»};
-ghost use Rattle·collector·specs.Collected.{FileSays, CollectSays};
-use crate::Layout;
-use crate::NoRoom;
+ghost use Rattle.std.specs.Prelude.{◌≡◌, ◌+◌, ◌-◌, ◌*◌, ◌<◌, ◌≤◌, length, Some};
+ghost use Rattle.std.specs.List.{slice_get};
+ghost use Rattle.semantics.specs.Names.{File as Meant};
+ghost use Rattle.collector.specs.Rows.{InOrder, texts_in};
+ghost use Rattle.collector.specs.Collected.{FileSays, CollectSays};
+
 use crate::lines::put_lines;
-use crate::row::put;
-use crate::row::texts_of;
+use crate::row::{put, texts_of};
 use crate::uses::put_uses;
+use crate::{Layout, NoRoom};
 use source::Source;
 
 // How many words of its own each file has in the table.
@@ -27,11 +22,11 @@ fn put_file<S: Source>(
     file: usize,
     at: usize,
 ) -> Result<usize, NoRoom>
-    requires order { ⌜ InOrder l (now words) ⌝ }
-    requires fits { ⌜ fits (now source) («texts-in» l (now words)) ⌝ }
-    requires there { ⌜ ((x : Meant) × (nth (holds (now source) («texts-in» l (now words))) file ≡ Some x)) ⌝ }
-    requires place { ⌜ (l .index + 1 + 6 * length (holds (now source) («texts-in» l (now words))) ≤ «at») × («at» ≤ l .work) ⌝ }
-    ensures { λ r. ⌜ FileSays (holds (now (source .entry)) («texts-in» l (now (words .entry)))) l file (now (words .entry)) «at» (now (words .exit)) r ⌝ }
+    requires order { InOrder l words.old }
+    requires fits { fits source.now (texts_in l words.old) }
+    requires there { (x : Meant) × (slice_get (holds source.now (texts_in l words.old)) file ≡ Some x) }
+    requires place { (l.index + 1 + 6 * length (holds source.now (texts_in l words.old)) ≤ «at») × («at» ≤ l.work) }
+    ensures { FileSays (holds source.now (texts_in l words.old)) l file words.old «at» words.new result }
 {
     let Some(name) = source.name(texts_of(words, l), file) else {
         return Err(NoRoom);
@@ -52,10 +47,10 @@ fn put_file<S: Source>(
 
 // The symbol table of the texts that the source holds, from index on.
 pub fn collect<S: Source>(source: &S, words: &mut [u32], l: Layout) -> Result<(), NoRoom>
-    requires order { ⌜ InOrder l (now words) ⌝ }
-    requires fits { ⌜ fits (now source) («texts-in» l (now words)) ⌝ }
-    ensures texts { λ _. ⌜ «texts-in» l (now (words .exit)) ≡ «texts-in» l (now (words .entry)) ⌝ }
-    ensures says { λ r. ⌜ CollectSays (holds (now (source .entry)) («texts-in» l (now (words .entry)))) l (now (words .entry)) (now (words .exit)) r ⌝ }
+    requires order { InOrder l words.old }
+    requires fits { fits source.now (texts_in l words.old) }
+    ensures texts { texts_in l words.new ≡ texts_in l words.old }
+    ensures says { CollectSays (holds source.now (texts_in l words.old)) l words.old words.new result }
 {
     let files = source.files(texts_of(words, l));
     let room = l.work - l.index;

@@ -1,29 +1,19 @@
 // What a line declares, written into the table.
-ghost use denote.Ref.{now};
-ghost use mathlib.Core.Path.{_≡_};
-ghost use mathlib.Core.List.{List, []};
-ghost use Prim.Native.Nat.{ℕ, _+_, _*_, _<_, _≤_};
-ghost use lib.ListN.{length, take, drop};
-ghost use Rattle·grammar.specs.Grammar.{Field};
-ghost use Rattle·grammar.specs.Code.{«slots-onto»};
-ghost use Rattle·parser.specs.Rows.{ops};
-ghost use Rattle·declarations.specs.Declares.{«sort-number»};
-ghost use Rattle·collector·specs.Rows.{Wrote, Held, InOrder};
-ghost use Rattle·collector·specs.Entries.{«slot-words»};
-ghost use Rattle·collector·specs.Says.{Loads, «line-of», HeadSays, FieldWords, EntrySays, LineSays};
-use crate::Layout;
-use crate::NoRoom;
-use crate::line::Loaded;
-use crate::line::OP;
+ghost use Rattle.std.specs.Prelude.{◌≡◌, ℕ, ◌+◌, ◌*◌, ◌<◌, ◌≤◌, List, [], length, take, drop};
+ghost use Rattle.grammar.specs.Grammar.{Field};
+ghost use Rattle.grammar.specs.Code.{slots_onto};
+ghost use Rattle.parser.specs.Rows.{ops};
+ghost use Rattle.declarations.specs.Declares.{sort_number};
+ghost use Rattle.collector.specs.Rows.{Wrote, Held, InOrder};
+ghost use Rattle.collector.specs.Entries.{slot_words};
+ghost use Rattle.collector.specs.Says.{Loads, line_of, HeadSays, FieldWords, EntrySays, LineSays};
+
+use crate::line::{Loaded, OP};
 use crate::row::put;
-use declarations::declare::Sort;
-use declarations::declare::declared;
-use declarations::declare::declared_at;
-use declarations::declare::type_word;
+use crate::{Layout, NoRoom};
+use declarations::declare::{Sort, declared, declared_at, type_word};
 use lexer::reader::Piece;
-use parser::code::Op;
-use parser::code::Span;
-use parser::code::op_at;
+use parser::code::{Op, Span, op_at};
 use syntax::view::item_of;
 
 // How many words a declaration takes, and how many more for each of its fields or parameters.
@@ -56,7 +46,7 @@ pub struct Listed {
 
 // The number that stands for what is declared.
 fn number(sort: Sort) -> u32
-    ensures { λ r. ⌜ r ≡ «sort-number» sort ⌝ }
+    ensures { result ≡ sort_number sort }
 {
     match sort {
         Sort::Kind => 0,
@@ -68,8 +58,8 @@ fn number(sort: Sort) -> u32
 
 // A piece's places.
 pub fn span(p: Piece<'_>) -> Span
-    requires { ⌜ (p .from < 4294967296) × (p .to < 4294967296) ⌝ }
-    ensures { λ r. ⌜ (r .from ≡ p .entry .from) × (r .to ≡ p .entry .to) ⌝ }
+    requires { (p.from < 4294967296) × (p.to < 4294967296) }
+    ensures { (result.from ≡ p.entry.from) × (result.to ≡ p.entry.to) }
 {
     Span {
         from: p.from as u32,
@@ -79,9 +69,9 @@ pub fn span(p: Piece<'_>) -> Span
 
 // The i-th of what the line declares.
 fn head_at(words: &[u32], l: Layout, line: Loaded, i: usize) -> Option<Head>
-    requires order { ⌜ InOrder l (now words) ⌝ }
-    requires loads { ⌜ Loads l (now words) line ⌝ }
-    ensures { λ r. ⌜ HeadSays («line-of» (now (words .entry)) line) i r ⌝ }
+    requires order { InOrder l words.now }
+    requires loads { Loads l words.now line }
+    ensures { HeadSays (line_of words.now line) i result }
 {
     let item = item_of(words, line.len, l.work, line.count);
     let Some(d) = declared_at(item, i) else {
@@ -100,7 +90,7 @@ fn head_at(words: &[u32], l: Layout, line: Loaded, i: usize) -> Option<Head>
 
 // The words of the field or parameter that an operation is.
 fn field_words(op: Op) -> [u32; 4]
-    ensures { λ r. ⌜ FieldWords op r ⌝ }
+    ensures { FieldWords op result }
 {
     match op {
         Op::Slot(name, ty) => [name.from, name.to, ty.from, ty.to],
@@ -110,9 +100,9 @@ fn field_words(op: Op) -> [u32; 4]
 
 // The n fields or parameters whose operations stand from a place on, written from another on.
 fn put_fields(words: &mut [u32], from: usize, n: usize, at: usize)
-    requires { ⌜ («at» + 4 * n ≤ from) × (from + 5 * n ≤ length (now words)) ⌝ }
-    ensures wrote { λ _. ⌜ Wrote «at» («at» + 4 * n) (now (words .entry)) (now (words .exit)) ⌝ }
-    ensures held { λ _. ⌜ ((line : List ℕ) (fs : List Field) → ops line (take (5 * n) (drop from (now (words .entry)))) ≡ «slots-onto» fs [] → Held (now (words .exit)) «at» («slot-words» fs)) ⌝ }
+    requires { («at» + 4 * n ≤ from) × (from + 5 * n ≤ length words.old) }
+    ensures wrote { Wrote «at» («at» + 4 * n) words.old words.new }
+    ensures held { (line : List ℕ) (fs : List Field) → ops line (take (5 * n) (drop from words.old)) ≡ slots_onto fs [] → Held words.new «at» (slot_words fs) }
 {
     for i in 0..n {
         let row = field_words(op_at(words, from, i));
@@ -129,10 +119,10 @@ fn put_entry(
     i: usize,
     at: usize,
 ) -> Result<usize, NoRoom>
-    requires order { ⌜ InOrder l (now words) ⌝ }
-    requires loads { ⌜ Loads l (now words) line ⌝ }
-    requires place { ⌜ (l .index ≤ «at») × («at» ≤ l .work) × (line .place ≤ l .index) ⌝ }
-    ensures { λ r. ⌜ EntrySays l (now (words .entry)) line by i «at» (now (words .exit)) r ⌝ }
+    requires order { InOrder l words.old }
+    requires loads { Loads l words.old line }
+    requires place { (l.index ≤ «at») × («at» ≤ l.work) × (line.place ≤ l.index) }
+    ensures { EntrySays l words.old line by i «at» words.new result }
 {
     let Some(h) = head_at(words, l, line, i) else {
         return Ok(at);
@@ -165,10 +155,10 @@ pub fn put_line(
     by: Origin,
     at: usize,
 ) -> Result<Listed, NoRoom>
-    requires order { ⌜ InOrder l (now words) ⌝ }
-    requires loads { ⌜ Loads l (now words) line ⌝ }
-    requires place { ⌜ (l .index ≤ «at») × («at» ≤ l .work) × (line .place ≤ l .index) ⌝ }
-    ensures { λ r. ⌜ LineSays l (now (words .entry)) line by «at» (now (words .exit)) r ⌝ }
+    requires order { InOrder l words.old }
+    requires loads { Loads l words.old line }
+    requires place { (l.index ≤ «at») × («at» ≤ l.work) × (line.place ≤ l.index) }
+    ensures { LineSays l words.old line by «at» words.new result }
 {
     let count = declared(item_of(words, line.len, l.work, line.count));
     let mut to = at;

@@ -1,14 +1,12 @@
 // A line of the texts, copied to the front of the row and read.
-ghost use denote.Ref.{now};
-ghost use Prim.Native.Nat.{_+_, _≤_};
-ghost use Rattle·collector·specs.Rows.{InOrder, «texts-in»};
-ghost use Rattle·collector·specs.Says.{ReadSays, LoadSays, There};
-use crate::Layout;
-use crate::NoRoom;
+ghost use Rattle.std.specs.Prelude.{◌+◌, ◌≤◌};
+ghost use Rattle.collector.specs.Rows.{InOrder, texts_in};
+ghost use Rattle.collector.specs.Says.{ReadSays, LoadSays, There};
+
 use crate::row::texts_of;
+use crate::{Layout, NoRoom};
 use source::Source;
-use syntax::read::Refusal;
-use syntax::read::read_line;
+use syntax::read::{Refusal, read_line};
 
 // How many words an operation takes.
 pub const OP: usize = 5;
@@ -23,9 +21,9 @@ pub struct Loaded {
 
 // A line that stands in the texts. One that isn't understood has no code.
 fn read(words: &mut [u32], l: Layout, place: usize, len: usize) -> Result<Loaded, NoRoom>
-    requires order { ⌜ InOrder l (now words) ⌝ }
-    requires place { ⌜ (l .texts ≤ place) × (place + len ≤ l .index) ⌝ }
-    ensures { λ r. ⌜ ReadSays l (now (words .entry)) place len (now (words .exit)) r ⌝ }
+    requires order { InOrder l words.old }
+    requires place { (l.texts ≤ place) × (place + len ≤ l.index) }
+    ensures { ReadSays l words.old place len words.new result }
 {
     if len > l.texts {
         return Err(NoRoom);
@@ -49,10 +47,10 @@ pub fn load<S: Source>(
     file: usize,
     i: usize,
 ) -> Result<Loaded, NoRoom>
-    requires order { ⌜ InOrder l (now words) ⌝ }
-    requires fits { ⌜ fits (now source) («texts-in» l (now words)) ⌝ }
-    requires there { ⌜ There (holds (now source) («texts-in» l (now words))) file i ⌝ }
-    ensures { λ r. ⌜ LoadSays (holds (now (source .entry)) («texts-in» l (now (words .entry)))) l file i (now (words .entry)) (now (words .exit)) r ⌝ }
+    requires order { InOrder l words.old }
+    requires fits { fits source.now (texts_in l words.old) }
+    requires there { There (holds source.now (texts_in l words.old)) file i }
+    ensures { LoadSays (holds source.now (texts_in l words.old)) l file i words.old words.new result }
 {
     let Some(e) = source.line(texts_of(words, l), file, i) else {
         return Err(NoRoom);

@@ -1,19 +1,14 @@
 // What the lines of a file declare, written into the table.
-ghost use denote.Ref.{now};
-ghost use mathlib.Core.Path.{_≡_};
-ghost use Prim.Native.Nat.{_<_, _≤_};
-ghost use Rattle·std.specs.Finite.{nth};
-ghost use Rattle·std.specs.declared.option.Option.the-variants.{Some};
-ghost use Rattle·semantics.specs.Names.{File as Meant};
-ghost use Rattle·collector·specs.Rows.{InOrder, «texts-in»};
-ghost use Rattle·collector·specs.Says.{There, BeginsAt, NthSays, LinesSays};
-use crate::Layout;
-use crate::NoRoom;
-use crate::entry::Listed;
-use crate::entry::Origin;
-use crate::entry::put_line;
+ghost use Rattle.std.specs.Prelude.{◌≡◌, ◌<◌, ◌≤◌, Some};
+ghost use Rattle.std.specs.List.{slice_get};
+ghost use Rattle.semantics.specs.Names.{File as Meant};
+ghost use Rattle.collector.specs.Rows.{InOrder, texts_in};
+ghost use Rattle.collector.specs.Says.{There, BeginsAt, NthSays, LinesSays};
+
+use crate::entry::{Listed, Origin, put_line};
 use crate::line::load;
 use crate::row::texts_of;
+use crate::{Layout, NoRoom};
 use source::Source;
 
 // The last place of a file at which a line may begin.
@@ -36,12 +31,12 @@ fn put_nth<S: Source>(
     start: usize,
     at: usize,
 ) -> Result<Put, NoRoom>
-    requires order { ⌜ InOrder l (now words) ⌝ }
-    requires fits { ⌜ fits (now source) («texts-in» l (now words)) ⌝ }
-    requires there { ⌜ There (holds (now source) («texts-in» l (now words))) file i ⌝ }
-    requires begins { ⌜ BeginsAt (holds (now source) («texts-in» l (now words))) file i start ⌝ }
-    requires place { ⌜ (l .index ≤ «at») × («at» ≤ l .work) × (file < 4294967296) ⌝ }
-    ensures { λ r. ⌜ NthSays (holds (now (source .entry)) («texts-in» l (now (words .entry)))) l file i start (now (words .entry)) «at» (now (words .exit)) r ⌝ }
+    requires order { InOrder l words.old }
+    requires fits { fits source.now (texts_in l words.old) }
+    requires there { There (holds source.now (texts_in l words.old)) file i }
+    requires begins { BeginsAt (holds source.now (texts_in l words.old)) file i start }
+    requires place { (l.index ≤ «at») × («at» ≤ l.work) × (file < 4294967296) }
+    ensures { NthSays (holds source.now (texts_in l words.old)) l file i start words.old «at» words.new result }
 {
     if start > FARTHEST {
         return Err(NoRoom);
@@ -66,11 +61,11 @@ pub fn put_lines<S: Source>(
     file: usize,
     at: usize,
 ) -> Result<Listed, NoRoom>
-    requires order { ⌜ InOrder l (now words) ⌝ }
-    requires fits { ⌜ fits (now source) («texts-in» l (now words)) ⌝ }
-    requires there { ⌜ ((x : Meant) × (nth (holds (now source) («texts-in» l (now words))) file ≡ Some x)) ⌝ }
-    requires place { ⌜ (l .index ≤ «at») × («at» ≤ l .work) × (file < 4294967296) ⌝ }
-    ensures { λ r. ⌜ LinesSays (holds (now (source .entry)) («texts-in» l (now (words .entry)))) l file (now (words .entry)) «at» (now (words .exit)) r ⌝ }
+    requires order { InOrder l words.old }
+    requires fits { fits source.now (texts_in l words.old) }
+    requires there { (x : Meant) × (slice_get (holds source.now (texts_in l words.old)) file ≡ Some x) }
+    requires place { (l.index ≤ «at») × («at» ≤ l.work) × (file < 4294967296) }
+    ensures { LinesSays (holds source.now (texts_in l words.old)) l file words.old «at» words.new result }
 {
     let lines = source.lines(texts_of(words, l), file);
     let mut start = 0;

@@ -1,15 +1,13 @@
 // Words of the row: those of the texts, and writing.
-ghost use denote.Ref.{now};
-ghost use mathlib.Core.Path.{_≡_};
-ghost use Prim.Native.Nat.{_+_, _≤_};
-ghost use lib.ListN.{length};
-ghost use Rattle·collector·specs.Rows.{Wrote, Held, InOrder, «texts-in»};
+ghost use Rattle.std.specs.Prelude.{◌≡◌, ◌+◌, ◌≤◌, length};
+ghost use Rattle.collector.specs.Rows.{Wrote, Held, InOrder, texts_in};
+
 use crate::Layout;
 
 // The words of the texts.
 pub fn texts_of<'a>(words: &'a [u32], l: Layout) -> &'a [u32]
-    requires { ⌜ InOrder l (now words) ⌝ }
-    ensures { λ r. ⌜ now r ≡ «texts-in» l (now (words .entry)) ⌝ }
+    requires { InOrder l words.now }
+    ensures { result.now ≡ texts_in l words.now }
 {
     let from = l.texts;
     let to = l.index;
@@ -18,9 +16,9 @@ pub fn texts_of<'a>(words: &'a [u32], l: Layout) -> &'a [u32]
 
 // Words written over others, from a place on.
 pub fn put(words: &mut [u32], at: usize, xs: &[u32])
-    requires { ⌜ «at» + length (now xs) ≤ length (now words) ⌝ }
-    ensures wrote { λ _. ⌜ Wrote «at» («at» + length (now (xs .entry))) (now (words .entry)) (now (words .exit)) ⌝ }
-    ensures held { λ _. ⌜ Held (now (words .exit)) «at» (now (xs .entry)) ⌝ }
+    requires { «at» + length xs.now ≤ length words.old }
+    ensures wrote { Wrote «at» («at» + length xs.now) words.old words.new }
+    ensures held { Held words.new «at» xs.now }
 {
     words[at..at + xs.len()].copy_from_slice(xs);
 }

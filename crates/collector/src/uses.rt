@@ -1,20 +1,14 @@
 // The files that a file uses, listed in the table: each once, those that are there, in the order in which lines use them.
-ghost use denote.Ref.{now};
-ghost use mathlib.Core.Path.{_≡_};
-ghost use Prim.Native.Nat.{_<_, _≤_};
-ghost use lib.ListN.{length};
-ghost use Rattle·std.specs.Finite.{nth};
-ghost use Rattle·std.specs.declared.option.Option.the-variants.{Some};
-ghost use Rattle·semantics.specs.Names.{File as Meant};
-ghost use Rattle·collector·specs.Rows.{InOrder, «texts-in»};
-ghost use Rattle·collector·specs.Says.{Loads, There, «word-in», UseSays, NamedSays, ListedSays, PutUseSays, NthUseSays, UsesSays};
-use crate::Layout;
-use crate::NoRoom;
+ghost use Rattle.std.specs.Prelude.{◌≡◌, ◌<◌, ◌≤◌, length, Some};
+ghost use Rattle.std.specs.List.{slice_get};
+ghost use Rattle.semantics.specs.Names.{File as Meant};
+ghost use Rattle.collector.specs.Rows.{InOrder, texts_in};
+ghost use Rattle.collector.specs.Says.{Loads, There, word_in, UseSays, NamedSays, ListedSays, PutUseSays, NthUseSays, UsesSays};
+
 use crate::entry::span;
-use crate::line::Loaded;
-use crate::line::load;
-use crate::row::put;
-use crate::row::texts_of;
+use crate::line::{Loaded, load};
+use crate::row::{put, texts_of};
+use crate::{Layout, NoRoom};
 use base::same_word;
 use declarations::declare::used;
 use parser::code::Span;
@@ -23,9 +17,9 @@ use syntax::view::item_of;
 
 // The place of the name of the file that the line uses.
 fn used_at(words: &[u32], l: Layout, line: Loaded) -> Option<Span>
-    requires order { ⌜ InOrder l (now words) ⌝ }
-    requires loads { ⌜ Loads l (now words) line ⌝ }
-    ensures { λ r. ⌜ UseSays (now (words .entry)) line r ⌝ }
+    requires order { InOrder l words.now }
+    requires loads { Loads l words.now line }
+    ensures { UseSays words.now line result }
 {
     match used(item_of(words, line.len, l.work, line.count)) {
         Some(name) => Some(span(name)),
@@ -35,8 +29,8 @@ fn used_at(words: &[u32], l: Layout, line: Loaded) -> Option<Span>
 
 // The word at places of the row's front.
 fn word_at<'a>(words: &'a [u32], s: Span) -> &'a [u32]
-    requires { ⌜ (s .from ≤ s .to) × (s .to ≤ length (now words)) ⌝ }
-    ensures { λ r. ⌜ now r ≡ «word-in» (now (words .entry)) s ⌝ }
+    requires { (s.from ≤ s.to) × (s.to ≤ length words.now) }
+    ensures { result.now ≡ word_in words.now s }
 {
     let from = s.from as usize;
     let to = s.to as usize;
@@ -45,10 +39,10 @@ fn word_at<'a>(words: &'a [u32], s: Span) -> &'a [u32]
 
 // Whether a file has the name that stands at places of the front.
 fn named<S: Source>(source: &S, words: &[u32], l: Layout, file: usize, s: Span) -> bool
-    requires order { ⌜ InOrder l (now words) ⌝ }
-    requires fits { ⌜ fits (now source) («texts-in» l (now words)) ⌝ }
-    requires span { ⌜ (s .from ≤ s .to) × (s .to ≤ length (now words)) ⌝ }
-    ensures { λ r. ⌜ NamedSays (holds (now (source .entry)) («texts-in» l (now (words .entry)))) file («word-in» (now (words .entry)) s) r ⌝ }
+    requires order { InOrder l words.now }
+    requires fits { fits source.now (texts_in l words.now) }
+    requires span { (s.from ≤ s.to) × (s.to ≤ length words.now) }
+    ensures { NamedSays (holds source.now (texts_in l words.now)) file (word_in words.now s) result }
 {
     let texts = texts_of(words, l);
     let Some(e) = source.name(texts, file) else {
@@ -68,11 +62,11 @@ fn is_listed<S: Source>(
     from: usize,
     to: usize,
 ) -> bool
-    requires order { ⌜ InOrder l (now words) ⌝ }
-    requires fits { ⌜ fits (now source) («texts-in» l (now words)) ⌝ }
-    requires span { ⌜ (s .from ≤ s .to) × (s .to ≤ length (now words)) ⌝ }
-    requires list { ⌜ (from ≤ to) × (to ≤ length (now words)) ⌝ }
-    ensures { λ r. ⌜ ListedSays (holds (now (source .entry)) («texts-in» l (now (words .entry)))) (now (words .entry)) from to («word-in» (now (words .entry)) s) r ⌝ }
+    requires order { InOrder l words.now }
+    requires fits { fits source.now (texts_in l words.now) }
+    requires span { (s.from ≤ s.to) × (s.to ≤ length words.now) }
+    requires list { (from ≤ to) × (to ≤ length words.now) }
+    ensures { ListedSays (holds source.now (texts_in l words.now)) words.now from to (word_in words.now s) result }
 {
     for j in from..to {
         if named(source, words, l, words[j] as usize, s) {
@@ -92,13 +86,13 @@ fn put_use<S: Source>(
     from: usize,
     to: usize,
 ) -> Result<usize, NoRoom>
-    requires order { ⌜ InOrder l (now words) ⌝ }
-    requires fits { ⌜ fits (now source) («texts-in» l (now words)) ⌝ }
-    requires few { ⌜ length (holds (now source) («texts-in» l (now words))) < 4294967296 ⌝ }
-    requires there { ⌜ ((x : Meant) × (nth (holds (now source) («texts-in» l (now words))) file ≡ Some x)) ⌝ }
-    requires span { ⌜ (s .from ≤ s .to) × (s .to ≤ length (now words)) ⌝ }
-    requires list { ⌜ (from ≤ to) × (to ≤ l .work) ⌝ }
-    ensures { λ r. ⌜ PutUseSays (holds (now (source .entry)) («texts-in» l (now (words .entry)))) l file («word-in» (now (words .entry)) s) (now (words .entry)) from to (now (words .exit)) r ⌝ }
+    requires order { InOrder l words.old }
+    requires fits { fits source.now (texts_in l words.old) }
+    requires few { length (holds source.now (texts_in l words.old)) < 4294967296 }
+    requires there { (x : Meant) × (slice_get (holds source.now (texts_in l words.old)) file ≡ Some x) }
+    requires span { (s.from ≤ s.to) × (s.to ≤ length words.old) }
+    requires list { (from ≤ to) × (to ≤ l.work) }
+    ensures { PutUseSays (holds source.now (texts_in l words.old)) l file (word_in words.old s) words.old from to words.new result }
 {
     if named(source, words, l, file, s) {
         return Ok(to);
@@ -126,12 +120,12 @@ fn use_nth<S: Source>(
     from: usize,
     to: usize,
 ) -> Result<usize, NoRoom>
-    requires order { ⌜ InOrder l (now words) ⌝ }
-    requires fits { ⌜ fits (now source) («texts-in» l (now words)) ⌝ }
-    requires few { ⌜ length (holds (now source) («texts-in» l (now words))) < 4294967296 ⌝ }
-    requires there { ⌜ There (holds (now source) («texts-in» l (now words))) file i ⌝ }
-    requires list { ⌜ (l .index ≤ from) × (from ≤ to) × (to ≤ l .work) ⌝ }
-    ensures { λ r. ⌜ NthUseSays (holds (now (source .entry)) («texts-in» l (now (words .entry)))) l file i (now (words .entry)) from to (now (words .exit)) r ⌝ }
+    requires order { InOrder l words.old }
+    requires fits { fits source.now (texts_in l words.old) }
+    requires few { length (holds source.now (texts_in l words.old)) < 4294967296 }
+    requires there { There (holds source.now (texts_in l words.old)) file i }
+    requires list { (l.index ≤ from) × (from ≤ to) × (to ≤ l.work) }
+    ensures { NthUseSays (holds source.now (texts_in l words.old)) l file i words.old from to words.new result }
 {
     let line = load(source, words, l, file, i)?;
     let Some(s) = used_at(words, l, line) else {
@@ -148,12 +142,12 @@ pub fn put_uses<S: Source>(
     file: usize,
     at: usize,
 ) -> Result<usize, NoRoom>
-    requires order { ⌜ InOrder l (now words) ⌝ }
-    requires fits { ⌜ fits (now source) («texts-in» l (now words)) ⌝ }
-    requires few { ⌜ length (holds (now source) («texts-in» l (now words))) < 4294967296 ⌝ }
-    requires there { ⌜ ((x : Meant) × (nth (holds (now source) («texts-in» l (now words))) file ≡ Some x)) ⌝ }
-    requires place { ⌜ (l .index ≤ «at») × («at» ≤ l .work) ⌝ }
-    ensures { λ r. ⌜ UsesSays (holds (now (source .entry)) («texts-in» l (now (words .entry)))) l file (now (words .entry)) «at» (now (words .exit)) r ⌝ }
+    requires order { InOrder l words.old }
+    requires fits { fits source.now (texts_in l words.old) }
+    requires few { length (holds source.now (texts_in l words.old)) < 4294967296 }
+    requires there { (x : Meant) × (slice_get (holds source.now (texts_in l words.old)) file ≡ Some x) }
+    requires place { (l.index ≤ «at») × («at» ≤ l.work) }
+    ensures { UsesSays (holds source.now (texts_in l words.old)) l file words.old «at» words.new result }
 {
     let lines = source.lines(texts_of(words, l), file);
     let mut to = at;

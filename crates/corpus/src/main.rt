@@ -2,18 +2,11 @@
 // All that it says of a line comes from the library; here is only what reads and prints.
 mod show;
 
-use show::show_bad;
-use show::show_item;
-use std::alloc::AllocError;
-use std::alloc::Global;
-use std::error::AnyError;
-use std::io::BufRead;
-use std::io::BufReader;
-use std::io::BufWriter;
-use std::io::Write;
-use syntax::read::Refusal;
-use syntax::read::read_line;
-use syntax::read::room;
+use anyhow::anyhow;
+use show::{show_bad, show_item};
+use std::alloc::{AllocError, Global};
+use std::io::{BufRead, BufReader, BufWriter, Write};
+use syntax::read::{Refusal, read_line, room};
 use syntax::view::item_of;
 
 // A row of words with a line at its front, and room for its code behind it.
@@ -27,18 +20,18 @@ fn row_of(heap: Global, line: &[u8]) -> Result<Vec<u32>, AllocError> {
 }
 
 // What the line at a row's front is.
-fn show_line<W: Write>(row: &mut [u32], len: usize, out: &mut W) -> Result<(), AnyError> {
+fn show_line<W: Write>(row: &mut [u32], len: usize, out: &mut W) -> anyhow::Result<()> {
     match read_line(row, len, len) {
         Ok(count) => show_item(item_of(row, len, len, count), out)?,
         Err(Refusal::Wrong(place)) => show_bad(place, out)?,
-        Err(Refusal::NoRoom) => return Err("a line is too long".into()),
+        Err(Refusal::NoRoom) => return Err(anyhow!("a line is too long")),
     }
     Ok(())
 }
 
-fn run(rt: &LibcRuntime) -> Result<(), AnyError> {
-    let mut out = BufWriter::new(rt.stdout());
-    let lines = BufReader::new(rt.stdin()).split(rt.alloc(), b'\n');
+fn run(rt: &HostRuntime) -> anyhow::Result<()> {
+    let mut out = BufWriter::new(rt.alloc(), rt.stdout())?;
+    let lines = BufReader::new(rt.alloc(), rt.stdin())?.split(rt.alloc(), b'\n');
     for (number, line) in (1..u64::MAX).zip(lines) {
         let line = line?;
         let mut row = row_of(rt.alloc(), &line[..])?;
@@ -50,6 +43,6 @@ fn run(rt: &LibcRuntime) -> Result<(), AnyError> {
     Ok(())
 }
 
-fn main(rt: LibcRuntime) -> Result<(), AnyError> {
-    rt.report(run(&rt))
+fn main(rt: HostRuntime) -> anyhow::Result<()> {
+    run(&rt)
 }

@@ -1,13 +1,10 @@
 // An item in words: its parts with their places, and its operations one behind another.
 use lexer::reader::Piece;
 use lexer::token::Operator;
-use parser::code::Op;
-use parser::code::Span;
+use parser::code::{Op, Span};
 use std::io;
 use std::io::Write;
-use syntax::view::Item;
-use syntax::view::Ops;
-use syntax::view::piece;
+use syntax::view::{Item, Ops, piece};
 
 fn sign(o: Operator) -> &'static str {
     match o {

@@ -1,77 +1,71 @@
 -- What the code says of the names that a line declares, against the definition's declarations.
-use mathlib.Core.Path.{_≡_}
-use mathlib.Core.List.{List, [], _∷_}
-use Prim.Native.Nat.{ℕ, _≤_}
-use lib.ListN.{length}
-use denote.Ref.{now}
-use Rattle·std.specs.Finite.{nth}
-use Rattle·std.specs.declared.option.Option.{Option}
-use Rattle·std.specs.declared.option.Option.the-variants.{Some, None}
-use Rattle·lexer.specs.Tokens.{Tok}
-use Rattle·lexer.specs.declared.reader.Piece.{Piece}
-use Rattle·grammar.specs.Grammar.{Field, Item as Meant, nothing, i-use, i-kind, i-rec, i-def, i-bad}
-use Rattle·grammar.specs.Code.{slots-onto, o-const, o-slot}
-use Rattle·semantics.specs.Names.{Decl, decl, decls-item, uses-item}
-use Rattle·parser.specs.Rows.{ops, op-is, span-of}
-use Rattle·parser.specs.declared.code.Span.{Span}
-use Rattle·parser.specs.declared.code.Op.{Op}
-use Rattle·parser.specs.declared.code.Op.the-variants.{Const, Slot}
-use Rattle·syntax.specs.View.{piece-of, ViewSays}
-use Rattle·syntax.specs.declared.view.Item.{Item}
-use Rattle·declarations·specs.declared.declare.Sort.{Sort}
-use Rattle·declarations·specs.declared.declare.Sort.the-variants.{Kind, Constant, Record, Def}
-use Rattle·declarations·specs.declared.declare.Declaration.{Declaration}
-use Rattle·declarations·specs.declared.fields.FieldAt.{FieldAt}
-use Rattle·declarations·specs.declared.fields.Places.{Places}
+use Rattle.std.specs.Prelude.{◌≡◌, ℕ, ◌≤◌, List, [], ◌∷◌, length, Some, None, Option, ◌≢◌}
+use Rattle.std.specs.List.{slice_get}
+use Rattle.lexer.specs.Tokens.{Tok}
+use Rattle.lexer.specs.declared.reader.Piece.{Piece}
+use Rattle.grammar.specs.Grammar.{Field, Item as Meant, nothing, i_use, i_kind, i_rec, i_def, i_bad}
+use Rattle.grammar.specs.Code.{slots_onto, o_const, o_slot}
+use Rattle.semantics.specs.Names.{Decl, decl, decls_item, uses_item}
+use Rattle.parser.specs.Rows.{ops, op_is, span_of}
+use Rattle.parser.specs.declared.code.Span.{Span}
+use Rattle.parser.specs.declared.code.Op.{Op}
+use Rattle.parser.specs.declared.code.Op.TheVariants.{Const, Slot}
+use Rattle.syntax.specs.View.{piece_of, ViewSays}
+use Rattle.syntax.specs.declared.view.Item.{Item}
+use Rattle.declarations.specs.declared.declare.Sort.{Sort}
+use Rattle.declarations.specs.declared.declare.Sort.TheVariants.{Kind, Constant, Record, Def}
+use Rattle.declarations.specs.declared.declare.Declaration.{Declaration}
+use Rattle.declarations.specs.declared.fields.FieldAt.{FieldAt}
+use Rattle.declarations.specs.declared.fields.Places.{Places}
 
 -- the number that the definition has for what is declared
-abbrev pub sort-number : Sort → ℕ
-sort-number Kind = 0
-sort-number Constant = 1
-sort-number Record = 2
-sort-number Def = 3
+abbrev pub sort_number : Sort → ℕ
+sort_number Kind = 0
+sort_number Constant = 1
+sort_number Record = 2
+sort_number Def = 3
 
 -- the name of the constant that an operation is, or it is none
 abbrev pub ConstSays : Op → Option Span → Type 0
 ConstSays op (Some s) = op ≡ Const s
-ConstSays op None = (line : List ℕ) (t : Tok) → op-is line op ≡ o-const t → ⊥
+ConstSays op None = (line : List ℕ) (t : Tok) → op_is line op ≢ o_const t
 
 -- the places of the field that an operation is, or it is none
 abbrev pub SlotSays : Op → Option Places → Type 0
-SlotSays op (Some p) = op ≡ Slot (p .name) (p .ty)
-SlotSays op None = (line : List ℕ) (f : Field) → op-is line op ≡ o-slot f → ⊥
+SlotSays op (Some p) = op ≡ Slot p.name p.ty
+SlotSays op None = (line : List ℕ) (f : Field) → op_is line op ≢ o_slot f
 
 -- d is the definition's declaration x of a line that begins at 0: its name and places, its sort, its type's word, and the fields whose operations it has
 abbrev pub DeclSays : List ℕ → Decl → Declaration → Type 0
-DeclSays line x d = (fs : List Field) × (x ≡ decl 0 (piece-of (d .name)) (sort-number (d .sort)) (now (d .ty .text)) fs) × (ops line (now (d .fields .code)) ≡ slots-onto fs []) × (now (d .fields .line) ≡ line)
+DeclSays line x d = (fs : List Field) × (x ≡ decl 0 (piece_of d.name) (sort_number d.sort) d.ty.text.now fs) × (ops line d.fields.code.now ≡ slots_onto fs []) × (d.fields.line.now ≡ line)
 
 -- the i-th of these declarations, or there are no more than i
 abbrev pub AtSays : List ℕ → List Decl → ℕ → Option Declaration → Type 0
-AtSays line ds i (Some d) = (x : Decl) × (nth ds i ≡ Some x) × DeclSays line x d
+AtSays line ds i (Some d) = (x : Decl) × (slice_get ds i ≡ Some x) × DeclSays line x d
 AtSays line ds i None = length ds ≤ i
 
 -- the i-th name that is declared by the line of which this is the view, whatever line and item it is the view of
 abbrev pub DeclaredSays : Item → ℕ → Option Declaration → Type 0
-DeclaredSays view i r = (line : List ℕ) (it : Meant) → ViewSays line it view → AtSays line (decls-item 0 it) i r
+DeclaredSays view i r = (line : List ℕ) (it : Meant) → ViewSays line it view → AtSays line (decls_item 0 it) i r
 
 -- how many names it declares
 abbrev pub CountSays : Item → ℕ → Type 0
-CountSays view n = (line : List ℕ) (it : Meant) → ViewSays line it view → n ≡ length (decls-item 0 it)
+CountSays view n = (line : List ℕ) (it : Meant) → ViewSays line it view → n ≡ length (decls_item 0 it)
 
 -- the piece of the type that all have which an item declares: of a kind and its constants the kind's name, of a record its own, of a def
 -- its result's
 abbrev pub TypeWord : Meant → Tok → Type 0
 TypeWord nothing t = ⊥
-TypeWord (i-use u) t = ⊥
-TypeWord (i-kind k cs) t = t ≡ k
-TypeWord (i-rec n fs) t = t ≡ n
-TypeWord (i-def n ps r e) t = t ≡ r
-TypeWord (i-bad a b) t = ⊥
+TypeWord (i_use u) t = ⊥
+TypeWord (i_kind k cs) t = t ≡ k
+TypeWord (i_rec n fs) t = t ≡ n
+TypeWord (i_def n ps r e) t = t ≡ r
+TypeWord (i_bad a b) t = ⊥
 
 -- that piece, or the item declares nothing
 abbrev pub TypeSays : Meant → Option Piece → Type 0
-TypeSays it (Some p) = TypeWord it (piece-of p)
-TypeSays it None = decls-item 0 it ≡ []
+TypeSays it (Some p) = TypeWord it (piece_of p)
+TypeSays it None = decls_item 0 it ≡ []
 
 -- that piece of the line of which this is the view, whatever line and item it is the view of
 abbrev pub TypedSays : Item → Option Piece → Type 0
@@ -79,8 +73,8 @@ TypedSays view r = (line : List ℕ) (it : Meant) → ViewSays line it view → 
 
 -- the file that an item uses, with the piece that names it, or it uses none
 abbrev pub FileSays : Meant → Option Piece → Type 0
-FileSays it (Some p) = (it ≡ i-use (piece-of p)) × (uses-item it ≡ now (p .text) ∷ [])
-FileSays it None = uses-item it ≡ []
+FileSays it (Some p) = (it ≡ i_use (piece_of p)) × (uses_item it ≡ p.text.now ∷ [])
+FileSays it None = uses_item it ≡ []
 
 -- the file that is used by the line of which this is the view, whatever line and item it is the view of
 abbrev pub UsedSays : Item → Option Piece → Type 0
@@ -88,10 +82,10 @@ UsedSays view r = (line : List ℕ) (it : Meant) → ViewSays line it view → F
 
 -- the places of the i-th of these fields, or there are no more than i
 abbrev pub PlacesSays : List ℕ → List Field → ℕ → Option Places → Type 0
-PlacesSays line fs i (Some p) = nth fs i ≡ Some (record { name = span-of line (p .name); ty = span-of line (p .ty) })
+PlacesSays line fs i (Some p) = slice_get fs i ≡ Some (record { name = span_of line p.name; ty = span_of line p.ty })
 PlacesSays line fs i None = length fs ≤ i
 
 -- the i-th of these fields, or there are no more than i
 abbrev pub FieldSays : List Field → ℕ → Option FieldAt → Type 0
-FieldSays fs i (Some f) = nth fs i ≡ Some (record { name = piece-of (f .name); ty = piece-of (f .ty) })
+FieldSays fs i (Some f) = slice_get fs i ≡ Some (record { name = piece_of f.name; ty = piece_of f.ty })
 FieldSays fs i None = length fs ≤ i

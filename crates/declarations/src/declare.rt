@@ -1,22 +1,17 @@
 // The names that a line declares, and the file that it uses.
-ghost use mathlib.Core.Path.{_≡_};
-ghost use mathlib.Core.List.{List, [], _∷_};
-ghost use Prim.Native.Nat.{ℕ, suc};
-ghost use lib.ListN.{length};
-ghost use Rattle·base.specs.Base.{Word};
-ghost use Rattle·lexer.specs.Tokens.{Tok};
-ghost use Rattle·grammar.specs.Grammar.{Field, «i-kind»};
-ghost use Rattle·grammar.specs.Code.{«consts-code», «slots-onto»};
-ghost use Rattle·semantics.specs.Names.{decl, «decls-item», consts};
-ghost use Rattle·parser.specs.Rows.{ops};
-ghost use Rattle·syntax.specs.View.{«piece-of»};
-ghost use Rattle·declarations·specs.Declares.{«sort-number», ConstSays, AtSays, DeclaredSays, CountSays, TypedSays, UsedSays};
+ghost use Rattle.std.specs.Prelude.{◌≡◌, ℕ, suc, List, [], ◌∷◌, length};
+ghost use Rattle.base.specs.Base.{Word};
+ghost use Rattle.lexer.specs.Tokens.{Tok};
+ghost use Rattle.grammar.specs.Grammar.{Field, i_kind};
+ghost use Rattle.grammar.specs.Code.{consts_code, slots_onto};
+ghost use Rattle.semantics.specs.Names.{decl, decls_item, consts};
+ghost use Rattle.parser.specs.Rows.{ops};
+ghost use Rattle.syntax.specs.View.{piece_of};
+ghost use Rattle.declarations.specs.Declares.{sort_number, ConstSays, AtSays, DeclaredSays, CountSays, TypedSays, UsedSays};
+
 use lexer::reader::Piece;
-use parser::code::Op;
-use parser::code::Span;
-use syntax::view::Item;
-use syntax::view::Ops;
-use syntax::view::piece;
+use parser::code::{Op, Span};
+use syntax::view::{Item, Ops, piece};
 
 // What is declared: a kind, a constant of one, a record, a def.
 #[derive(Clone, Copy)]
@@ -39,8 +34,8 @@ pub struct Declaration<'a> {
 
 // None of these operations.
 fn empty<'a>(of: Ops<'a>) -> Ops<'a>
-    ensures line { λ r. ⌜ now (r .line) ≡ now (of .entry .line) ⌝ }
-    ensures code { λ r. ⌜ ((line : List ℕ) → ops line (now (r .code)) ≡ []) ⌝ }
+    ensures line { result.line.now ≡ of.entry.line.now }
+    ensures code { (line : List ℕ) → ops line result.code.now ≡ [] }
 {
     Ops {
         line: of.line,
@@ -50,7 +45,7 @@ fn empty<'a>(of: Ops<'a>) -> Ops<'a>
 
 // The name of a constant that an operation is.
 fn const_of(op: Op) -> Option<Span>
-    ensures { λ r. ⌜ ConstSays op r ⌝ }
+    ensures { ConstSays op result }
 {
     match op {
         Op::Const(s) => Some(s),
@@ -60,7 +55,7 @@ fn const_of(op: Op) -> Option<Span>
 
 // The constant with a number of a kind with this name.
 fn constant<'a>(kind: Piece<'a>, names: Ops<'a>, i: usize) -> Option<Declaration<'a>>
-    ensures { λ r. ⌜ ((line : List ℕ) (cs : List Tok) → ops line (now (names .entry .code)) ≡ «consts-code» cs → now (names .entry .line) ≡ line → AtSays line (consts 0 (now (kind .entry .text)) cs) i r) ⌝ }
+    ensures { (line : List ℕ) (cs : List Tok) → ops line names.entry.code.now ≡ consts_code cs → names.entry.line.now ≡ line → AtSays line (consts 0 kind.entry.text.now cs) i result }
 {
     let Some(op) = names.get(i) else {
         return None;
@@ -78,7 +73,7 @@ fn constant<'a>(kind: Piece<'a>, names: Ops<'a>, i: usize) -> Option<Declaration
 
 // What a line that declares a kind declares: the kind, then its constants.
 fn of_kind<'a>(name: Piece<'a>, names: Ops<'a>, i: usize) -> Option<Declaration<'a>>
-    ensures { λ r. ⌜ ((line : List ℕ) (cs : List Tok) → ops line (now (names .entry .code)) ≡ «consts-code» cs → now (names .entry .line) ≡ line → AtSays line («decls-item» 0 («i-kind» («piece-of» (name .entry)) cs)) i r) ⌝ }
+    ensures { (line : List ℕ) (cs : List Tok) → ops line names.entry.code.now ≡ consts_code cs → names.entry.line.now ≡ line → AtSays line (decls_item 0 (i_kind (piece_of name.entry) cs)) i result }
 {
     if i == 0 {
         Some(Declaration {
@@ -94,21 +89,21 @@ fn of_kind<'a>(name: Piece<'a>, names: Ops<'a>, i: usize) -> Option<Declaration<
 
 // One declaration and no more.
 fn only<'a>(d: Declaration<'a>, i: usize) -> Option<Declaration<'a>>
-    ensures { λ r. ⌜ ((line : List ℕ) (fs : List Field) → ops line (now (d .entry .fields .code)) ≡ «slots-onto» fs [] → now (d .entry .fields .line) ≡ line → AtSays line (decl 0 («piece-of» (d .entry .name)) («sort-number» (d .entry .sort)) (now (d .entry .ty .text)) fs ∷ []) i r) ⌝ }
+    ensures { (line : List ℕ) (fs : List Field) → ops line d.entry.fields.code.now ≡ slots_onto fs [] → d.entry.fields.line.now ≡ line → AtSays line (decl 0 (piece_of d.entry.name) (sort_number d.entry.sort) d.entry.ty.text.now fs ∷ []) i result }
 {
     if i == 0 { Some(d) } else { None }
 }
 
 // How many names a kind with these constants declares.
 fn with_kind(names: Ops<'_>) -> usize
-    ensures { λ r. ⌜ ((line : List ℕ) (kind : Word) (cs : List Tok) → ops line (now (names .entry .code)) ≡ «consts-code» cs → r ≡ suc (length (consts 0 kind cs))) ⌝ }
+    ensures { (line : List ℕ) (kind : Word) (cs : List Tok) → ops line names.entry.code.now ≡ consts_code cs → result ≡ suc (length (consts 0 kind cs)) }
 {
     1 + names.len()
 }
 
 // How many names a line declares.
 pub fn declared(item: Item<'_>) -> usize
-    ensures { λ r. ⌜ CountSays (item .entry) r ⌝ }
+    ensures { CountSays item.entry result }
 {
     match item {
         Item::Kind(_, names) => with_kind(names),
@@ -120,7 +115,7 @@ pub fn declared(item: Item<'_>) -> usize
 
 // The i-th name that a line declares.
 pub fn declared_at<'a>(item: Item<'a>, i: usize) -> Option<Declaration<'a>>
-    ensures { λ r. ⌜ DeclaredSays (item .entry) i r ⌝ }
+    ensures { DeclaredSays item.entry i result }
 {
     match item {
         Item::Kind(name, names) => of_kind(name, names, i),
@@ -153,7 +148,7 @@ pub fn declared_at<'a>(item: Item<'a>, i: usize) -> Option<Declaration<'a>>
 
 // The piece of the type that all have which a line declares.
 pub fn type_word<'a>(item: Item<'a>) -> Option<Piece<'a>>
-    ensures { λ r. ⌜ TypedSays (item .entry) r ⌝ }
+    ensures { TypedSays item.entry result }
 {
     match item {
         Item::Kind(name, _) => Some(name),
@@ -165,7 +160,7 @@ pub fn type_word<'a>(item: Item<'a>) -> Option<Piece<'a>>
 
 // The file that a line uses.
 pub fn used<'a>(item: Item<'a>) -> Option<Piece<'a>>
-    ensures { λ r. ⌜ UsedSays (item .entry) r ⌝ }
+    ensures { UsedSays item.entry result }
 {
     match item {
         Item::Use(file) => Some(file),

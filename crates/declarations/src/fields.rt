@@ -1,17 +1,14 @@
 // The fields of a record and the parameters of a def, one at a time.
-ghost use mathlib.Core.Path.{_≡_};
-ghost use mathlib.Core.List.{List, []};
-ghost use Prim.Native.Nat.{ℕ};
-ghost use Rattle·grammar.specs.Grammar.{Field as Meant};
-ghost use Rattle·grammar.specs.Code.{«slots-onto»};
-ghost use Rattle·parser.specs.Rows.{ops, «span-of»};
-ghost use Rattle·syntax.specs.View.{«piece-of»};
-ghost use Rattle·declarations·specs.Declares.{SlotSays, PlacesSays, FieldSays};
+ghost use Rattle.std.specs.Prelude.{◌≡◌, ℕ, List, []};
+ghost use Rattle.grammar.specs.Grammar.{Field as Meant};
+ghost use Rattle.grammar.specs.Code.{slots_onto};
+ghost use Rattle.parser.specs.Rows.{ops, span_of};
+ghost use Rattle.syntax.specs.View.{piece_of};
+ghost use Rattle.declarations.specs.Declares.{SlotSays, PlacesSays, FieldSays};
+
 use lexer::reader::Piece;
-use parser::code::Op;
-use parser::code::Span;
-use syntax::view::Ops;
-use syntax::view::piece;
+use parser::code::{Op, Span};
+use syntax::view::{Ops, piece};
 
 // A field or a parameter: the piece that names it, and the word of its type.
 #[derive(Clone, Copy)]
@@ -29,7 +26,7 @@ struct Places {
 
 // Those of the field that an operation is.
 fn slot_of(op: Op) -> Option<Places>
-    ensures { λ r. ⌜ SlotSays op r ⌝ }
+    ensures { SlotSays op result }
 {
     match op {
         Op::Slot(name, ty) => Some(Places { name, ty }),
@@ -39,8 +36,8 @@ fn slot_of(op: Op) -> Option<Places>
 
 // The field at places of a line.
 fn placed<'a>(line: &'a [u32], at: Places) -> FieldAt<'a>
-    ensures name { λ r. ⌜ «piece-of» (r .name) ≡ «span-of» (now (line .entry)) (at .name) ⌝ }
-    ensures ty { λ r. ⌜ «piece-of» (r .ty) ≡ «span-of» (now (line .entry)) (at .ty) ⌝ }
+    ensures name { piece_of result.name ≡ span_of line.now at.name }
+    ensures ty { piece_of result.ty ≡ span_of line.now at.ty }
 {
     FieldAt {
         name: piece(line, at.name),
@@ -50,7 +47,7 @@ fn placed<'a>(line: &'a [u32], at: Places) -> FieldAt<'a>
 
 // The places of the i-th of these fields.
 fn slot_at(fields: Ops<'_>, i: usize) -> Option<Places>
-    ensures { λ r. ⌜ ((fs : List Meant) → ops (now (fields .entry .line)) (now (fields .entry .code)) ≡ «slots-onto» fs [] → PlacesSays (now (fields .entry .line)) fs i r) ⌝ }
+    ensures { (fs : List Meant) → ops fields.entry.line.now fields.entry.code.now ≡ slots_onto fs [] → PlacesSays fields.entry.line.now fs i result }
 {
     let Some(op) = fields.get(i) else {
         return None;
@@ -60,7 +57,7 @@ fn slot_at(fields: Ops<'_>, i: usize) -> Option<Places>
 
 // The i-th of these fields.
 pub fn field_at<'a>(fields: Ops<'a>, i: usize) -> Option<FieldAt<'a>>
-    ensures { λ r. ⌜ ((fs : List Meant) → ops (now (fields .entry .line)) (now (fields .entry .code)) ≡ «slots-onto» fs [] → FieldSays fs i r) ⌝ }
+    ensures { (fs : List Meant) → ops fields.entry.line.now fields.entry.code.now ≡ slots_onto fs [] → FieldSays fs i result }
 {
     match slot_at(fields, i) {
         Some(at) => Some(placed(fields.line, at)),

@@ -1,17 +1,12 @@
 // What is said of one line: it is read and checked, in one row of words, for any way of looking names up.
-ghost use denote.Ref.{now};
-ghost use mathlib.Core.Path.{_≡_};
-ghost use lib.ListN.{length, take};
-ghost use Prim.Native.Nat.{_+_, _≤_};
-ghost use Rattle·diagnostics·specs.Diagnose.{RoomySays, WrongSays, CodeSays, DiagnoseSays};
-use checker::check::Stop;
-use checker::check::check;
+ghost use Rattle.std.specs.Prelude.{◌≡◌, ◌+◌, ◌≤◌, length, take};
+ghost use Rattle.diagnostics.specs.Diagnose.{RoomySays, WrongSays, CodeSays, DiagnoseSays};
+
+use checker::check::{Stop, check};
 use checker::lookup::Lookup;
 use checker::rows::Bounds;
-use parser::code::Op;
-use parser::code::emit;
-use syntax::read::Refusal;
-use syntax::read::read_line;
+use parser::code::{Op, emit};
+use syntax::read::{Refusal, read_line};
 
 // What is said of a line: so many things, four words each, from a place on, behind so many operations of the line's code.
 #[derive(Clone, Copy)]
@@ -31,7 +26,7 @@ const WORDS_MORE: usize = 64;
 
 // Whether there are words enough behind base, for a line that stands before it.
 pub fn is_roomy(total: usize, len: usize, base: usize) -> bool
-    ensures { λ r. ⌜ RoomySays len base total r ⌝ }
+    ensures { RoomySays len base total result }
 {
     if len > LONGEST || len > base || base > total {
         return false;
@@ -41,9 +36,9 @@ pub fn is_roomy(total: usize, len: usize, base: usize) -> bool
 
 // The code of a line that isn't understood, from base on: one operation, with the place. None, where it was refused for want of room.
 fn code_wrong(words: &mut [u32], base: usize, refusal: Refusal) -> Option<usize>
-    requires { ⌜ base + 5 ≤ length (now words) ⌝ }
-    ensures front { λ _. ⌜ take base (now (words .exit)) ≡ take base (now (words .entry)) ⌝ }
-    ensures codes { λ r. ⌜ WrongSays refusal base (now (words .exit)) r ⌝ }
+    requires { base + 5 ≤ length words.old }
+    ensures front { take base words.new ≡ take base words.old }
+    ensures codes { WrongSays refusal base words.new result }
 {
     match refusal {
         Refusal::Wrong(place) => {
@@ -56,8 +51,8 @@ fn code_wrong(words: &mut [u32], base: usize, refusal: Refusal) -> Option<usize>
 
 // The code of the line in the first len words, from base on: how many operations. A line that isn't understood is one.
 pub fn code_line(words: &mut [u32], len: usize, base: usize) -> Option<usize>
-    ensures front { λ _. ⌜ take base (now (words .exit)) ≡ take base (now (words .entry)) ⌝ }
-    ensures codes { λ r. ⌜ CodeSays (now (words .entry)) len base (now (words .exit)) r ⌝ }
+    ensures front { take base words.new ≡ take base words.old }
+    ensures codes { CodeSays words.old len base words.new result }
 {
     if !is_roomy(words.len(), len, base) {
         return None;
@@ -70,14 +65,27 @@ pub fn code_line(words: &mut [u32], len: usize, base: usize) -> Option<usize>
 
 // What is said of the line in the first len words; what stands before base stays as it was. Or what has to be known first, or that too
 // few words were lent.
-pub fn diagnose<L: Lookup>(look: &L, words: &mut [u32], len: usize, base: usize) -> Result<Findings, Stop>
-    ensures front { λ _. ⌜ take base (now (words .exit)) ≡ take base (now (words .entry)) ⌝ }
-    ensures says { λ r. ⌜ DiagnoseSays (L·Lookup .book (now (look .entry))) (now (words .entry)) len base (now (words .exit)) r ⌝ }
+pub fn diagnose<L: Lookup>(
+    look: &L,
+    words: &mut [u32],
+    len: usize,
+    base: usize,
+) -> Result<Findings, Stop>
+    ensures front { take base words.new ≡ take base words.old }
+    ensures says { DiagnoseSays (L.Lookup.book look.now) words.old len base words.new result }
 {
     let Some(ops) = code_line(words, len, base) else {
         return Err(Stop::NoRoom);
     };
-    match check(look, words, Bounds { len, base, count: ops }) {
+    match check(
+        look,
+        words,
+        Bounds {
+            len,
+            base,
+            count: ops,
+        },
+    ) {
         Ok(count) => Ok(Findings {
             ops,
             at: base + 5 * ops,

@@ -1,24 +1,20 @@
 -- The work area as a part of the row: what a write into it leaves, and what stays of the memo and of the work area.
-use mathlib.Core.Path.{_≡_, refl, sym, ap, subst, _∙_}
-use mathlib.Core.List.{List, [], _∷_, _++_, append-nil}
-use Prim.Native.Nat.{ℕ, zero, suc, _+_, _-_, _≤_, _<_}
-use native.Mathlib.Omega.{arith}
-use lib.ListN.{length, take, drop, length-drop, length-append}
-use borrow.Rule.Slice.PartMut.{putMid}
-use Rattle·std.proofs.shelf.Lists.{drop-take, drop-drop, drop-at, drop-all, take-at, take-take, take-rest, take-append-drop, length-take-le}
-use Rattle·memo.specs.Record.{deep}
-use Rattle·memo.specs.Log.{Fits}
-use Rattle·driver·specs.Says.{memo-in}
-use Rattle·driver·specs.Doing.{Area}
+use Rattle.std.proofs.Common.{◌≡◌, ℕ, zero, suc, ◌+◌, ◌-◌, ◌<◌, ◌≤◌, List, [], ◌∷◌, ◌++◌, length, take, drop, sym, refl, ap, ◌∙◌, subst, append-nil, arith, length-append, length-drop}
+use borrow.Rule.Slice.PartMut.{put_mid}
+use Rattle.std.proofs.lemmas.List.{drop-take, drop-drop, drop_at, drop_all, take_at, take-take, take_rest, take-append-drop, length-take-le}
+use Rattle.memo.specs.Record.{deep}
+use Rattle.memo.specs.Log.{Fits}
+use Rattle.driver.specs.Says.{memo_in}
+use Rattle.driver.specs.Doing.{Area}
 
 -- the memo goes by what is before the work area
-pub same-memo : (known memo : ℕ) (ws vs : List ℕ) → known ≤ memo → take memo vs ≡ take memo ws → memo-in known memo vs ≡ memo-in known memo ws
-same-memo known memo ws vs h e =
+pub same_memo : (known memo : ℕ) (ws vs : List ℕ) → known ≤ memo → take memo vs ≡ take memo ws → memo_in known memo vs ≡ memo_in known memo ws
+same_memo known memo ws vs h e =
     let z : memo ≡ known + (memo - known) = omega arith in
     sym (drop-take known (memo - known) vs) ∙ ap (λ j. drop known (take j vs)) (sym z) ∙ ap (drop known) e ∙ ap (λ j. drop known (take j ws)) z ∙ drop-take known (memo - known) ws
 
-pub area-on : (known memo r f r2 f2 : ℕ) (ws vs : List ℕ) → Area ws known memo r f → length vs ≡ length ws → take memo vs ≡ take memo ws → memo + (r2 + f2) ≤ length ws → Area vs known memo r2 f2
-area-on known memo r f r2 f2 ws vs a l e h = record { low = a .low; high = let x = h in omega arith; small = let x = a .small in omega arith; fits = subst Fits (sym (same-memo known memo ws vs (a .low) e)) (a .fits) }
+pub area_on : (known memo r f r2 f2 : ℕ) (ws vs : List ℕ) → Area ws known memo r f → length vs ≡ length ws → take memo vs ≡ take memo ws → memo + (r2 + f2) ≤ length ws → Area vs known memo r2 f2
+area_on known memo r f r2 f2 ws vs a l e h = record { low = a.low; high = let x = h in omega arith; small = let x = a.small in omega arith; fits = subst Fits (sym (same_memo known memo ws vs a.low e)) a.fits }
 
 -- the work area was lent, and is v now
 pub record Lent (memo : ℕ) (ws vs v : List ℕ) : Type 0 where
@@ -26,63 +22,63 @@ pub record Lent (memo : ℕ) (ws vs v : List ℕ) : Type 0 where
   pub before : take memo vs ≡ take memo ws
   pub long : length vs ≡ length ws
 
-pub lent : (memo k : ℕ) (ws v : List ℕ) → k ≡ length ws - memo → length v ≡ k → memo ≤ length ws → Lent memo ws (putMid memo k ws v) v
+pub lent : (memo k : ℕ) (ws v : List ℕ) → k ≡ length ws - memo → length v ≡ k → memo ≤ length ws → Lent memo ws (put_mid memo k ws v) v
 lent memo k ws v ek l h =
     let t = length-take-le memo ws h in
     let d = length-drop memo ws in
-    let none : drop k (drop memo ws) ≡ [] = drop-all k (drop memo ws) (omega arith) in
-    let e : putMid memo k ws v ≡ take memo ws ++ v = ap (λ q. take memo ws ++ (v ++ q)) none ∙ ap (λ q. take memo ws ++ q) (append-nil v) in
-    let w : drop memo (putMid memo k ws v) ≡ v = ap (drop memo) e ∙ drop-at (take memo ws) v memo t in
-    let b : take memo (putMid memo k ws v) ≡ take memo ws = ap (take memo) e ∙ take-at (take memo ws) v memo t in
+    let none : drop k (drop memo ws) ≡ [] = drop_all k (drop memo ws) (omega arith) in
+    let e : put_mid memo k ws v ≡ take memo ws ++ v = ap (λ q. take memo ws ++ (v ++ q)) none ∙ ap (λ q. take memo ws ++ q) (append-nil v) in
+    let w : drop memo (put_mid memo k ws v) ≡ v = ap (drop memo) e ∙ drop_at (take memo ws) v memo t in
+    let b : take memo (put_mid memo k ws v) ≡ take memo ws = ap (take memo) e ∙ take_at (take memo ws) v memo t in
     let x = ap length w in
-    let y = length-drop memo (putMid memo k ws v) in
+    let y = length-drop memo (put_mid memo k ws v) in
     let u = ap length b in
-    record { work = w; before = b; long = ap length e ∙ (let q = length-append1 (take memo ws) v in omega arith) }
+    record { work = w; before = b; long = ap length e ∙ (let q = length_append1 (take memo ws) v in omega arith) }
   where
-    length-append1 : (xs ys : List ℕ) → length (xs ++ ys) ≡ length xs + length ys
-    length-append1 [] ys = omega arith
-    length-append1 (x ∷ xs) ys = let r = length-append1 xs ys in omega arith
+    length_append1 : (xs ys : List ℕ) → length (xs ++ ys) ≡ length xs + length ys
+    length_append1 [] ys = omega arith
+    length_append1 (x ∷ xs) ys = let r = length_append1 xs ys in omega arith
 
 pub whole : (memo : ℕ) (ws : List ℕ) → take (length ws - memo) (drop memo ws) ≡ drop memo ws
-whole memo ws = take-rest ws memo
+whole memo ws = take_rest ws memo
 
 -- the rows and the frames, in the work area and in the whole row
-pub same-rows : (memo r t : ℕ) (ws vs : List ℕ) → memo + r ≤ t → take t vs ≡ take t ws → take r (drop memo vs) ≡ take r (drop memo ws)
-same-rows memo r t ws vs h e =
+pub same_rows : (memo r t : ℕ) (ws vs : List ℕ) → memo + r ≤ t → take t vs ≡ take t ws → take r (drop memo vs) ≡ take r (drop memo ws)
+same_rows memo r t ws vs h e =
     let cut : (xs : List ℕ) → take (memo + r) (take t xs) ≡ take (memo + r) xs = λ xs. take-take (memo + r) t xs h in
     sym (drop-take memo r vs) ∙ ap (drop memo) (sym (cut vs) ∙ ap (take (memo + r)) e ∙ cut ws) ∙ drop-take memo r ws
 
-pub deep-work : (memo f : ℕ) (ws : List ℕ) → memo + f ≤ length ws → deep f (drop memo ws) ≡ deep f ws
-deep-work memo f ws h =
+pub deep_work : (memo f : ℕ) (ws : List ℕ) → memo + f ≤ length ws → deep f (drop memo ws) ≡ deep f ws
+deep_work memo f ws h =
     let d = length-drop memo ws in
     let z : memo + (length (drop memo ws) - f) ≡ length ws - f = omega arith in
     drop-drop (length (drop memo ws) - f) memo ws ∙ ap (λ j. drop j ws) z
 
-pub same-frames : (memo f : ℕ) (ws vs : List ℕ) → memo + f ≤ length ws → length vs ≡ length ws → deep f vs ≡ deep f ws → deep f (drop memo vs) ≡ deep f (drop memo ws)
-same-frames memo f ws vs h l e = deep-work memo f vs (omega arith) ∙ e ∙ sym (deep-work memo f ws h)
+pub same_frames : (memo f : ℕ) (ws vs : List ℕ) → memo + f ≤ length ws → length vs ≡ length ws → deep f vs ≡ deep f ws → deep f (drop memo vs) ≡ deep f (drop memo ws)
+same_frames memo f ws vs h l e = deep_work memo f vs (omega arith) ∙ e ∙ sym (deep_work memo f ws h)
 
 pub shorter : (n m : ℕ) (xs ys : List ℕ) → n ≤ m → take m xs ≡ take m ys → take n xs ≡ take n ys
 shorter n m xs ys h e = sym (take-take n m xs h) ∙ ap (take n) e ∙ take-take n m ys h
 
 -- the first words of a row in two parts
-pub take-two : (b j : ℕ) (xs : List ℕ) → take (b + j) xs ≡ take b xs ++ take j (drop b xs)
-take-two b j xs = sym (take-append-drop b (take (b + j) xs)) ∙ (λ t. take-take b (b + j) xs (omega arith) t ++ drop-take b j xs t)
+pub take_two : (b j : ℕ) (xs : List ℕ) → take (b + j) xs ≡ take b xs ++ take j (drop b xs)
+take_two b j xs = sym (take-append-drop b (take (b + j) xs)) ∙ (λ t. take-take b (b + j) xs (omega arith) t ++ drop-take b j xs t)
 
-pub take-short : (n : ℕ) (xs : List ℕ) → length (take n xs) ≤ length xs
-take-short zero [] = omega arith
-take-short zero (x ∷ xs) = omega arith
-take-short (suc n) [] = omega arith
-take-short (suc n) (x ∷ xs) = let r = take-short n xs in omega arith
+pub take_short : (n : ℕ) (xs : List ℕ) → length (take n xs) ≤ length xs
+take_short zero [] = omega arith
+take_short zero (x ∷ xs) = omega arith
+take_short (suc n) [] = omega arith
+take_short (suc n) (x ∷ xs) = let r = take_short n xs in omega arith
 
 -- the memo was lent, and is v now
-pub record Lent-memo (known memo : ℕ) (ws vs v : List ℕ) : Type 0 where
-  pub memo1 : memo-in known memo vs ≡ v
+pub record LentMemo (known memo : ℕ) (ws vs v : List ℕ) : Type 0 where
+  pub memo1 : memo_in known memo vs ≡ v
   pub before : take known vs ≡ take known ws
   pub work : drop memo vs ≡ drop memo ws
   pub long : length vs ≡ length ws
 
-pub lent-memo : (known memo : ℕ) (ws v : List ℕ) → length v ≡ memo - known → known ≤ memo → memo ≤ length ws → Lent-memo known memo ws (putMid known (memo - known) ws v) v
-lent-memo known memo ws v l h k =
+pub lent_memo : (known memo : ℕ) (ws v : List ℕ) → length v ≡ memo - known → known ≤ memo → memo ≤ length ws → LentMemo known memo ws (put_mid known (memo - known) ws v) v
+lent_memo known memo ws v l h k =
     let n = memo - known in
     let rest = drop n (drop known ws) in
     let t = length-take-le known ws (omega arith) in
@@ -90,11 +86,11 @@ lent-memo known memo ws v l h k =
     let b = length-append v rest in
     let d1 = length-drop known ws in
     let d2 = length-drop n (drop known ws) in
-    let e : drop known (putMid known n ws v) ≡ v ++ rest = drop-at (take known ws) (v ++ rest) known t in
+    let e : drop known (put_mid known n ws v) ≡ v ++ rest = drop_at (take known ws) (v ++ rest) known t in
     let z : memo ≡ known + n = omega arith in
     record {
-      memo1 = ap (take n) e ∙ take-at v rest n l;
-      before = take-at (take known ws) (v ++ rest) known t;
-      work = ap (λ j. drop j (putMid known n ws v)) z ∙ sym (drop-drop n known (putMid known n ws v)) ∙ ap (drop n) e ∙ drop-at v rest n l ∙ drop-drop n known ws ∙ ap (λ j. drop j ws) (sym z);
+      memo1 = ap (take n) e ∙ take_at v rest n l;
+      before = take_at (take known ws) (v ++ rest) known t;
+      work = ap (λ j. drop j (put_mid known n ws v)) z ∙ sym (drop-drop n known (put_mid known n ws v)) ∙ ap (drop n) e ∙ drop_at v rest n l ∙ drop-drop n known ws ∙ ap (λ j. drop j ws) (sym z);
       long = omega (arith, t, a, b, d1, d2, l, h, k);
     }

@@ -1,58 +1,52 @@
 -- An answer that comes back to the newest frame, of either sort.
-use mathlib.Core.Path.{_≡_, refl, sym, ap, subst, _∙_}
-use mathlib.Core.List.{List, [], _∷_}
-use Prim.Native.Nat.{ℕ, _+_, _-_, _≤_, _<_}
-use native.Mathlib.Omega.{arith}
-use lib.ListN.{length, take, drop, length-drop}
-use Rattle·std.specs.declared.option.Option.{Option as Perhaps}
-use Rattle·std.specs.declared.option.Option.the-variants.{Some, None}
-use Rattle·engine.specs.declared.key.Key.{Key}
-use Rattle·engine.specs.Engine.{Ans, Got, Entry, Kept}
-use Rattle·engine.specs.Machine.{Frame, looks, works, back, backed}
-use Rattle·memo.specs.Record.{deep}
-use Rattle·memo.specs.Log.{entry-at}
-use Rattle·memo.specs.Says.{Looks}
-use Rattle·driver·specs.declared.state.At.{At}
-use Rattle·driver·specs.declared.state.Now.the-variants.{Back}
-use Rattle·driver·specs.Rows.{stacked, Stack}
-use Rattle·driver·specs.Says.{memo-in, Heads}
-use Rattle·driver·specs.Doing.{Doing, BackSays, ReturnSays, look-long}
-use Rattle·driver·proofs.Turns.{work-head}
-use Rattle·driver·proofs.Calls.{look-head}
+use Rattle.std.proofs.Common.{◌≡◌, ℕ, ◌+◌, ◌-◌, ◌<◌, ◌≤◌, List, [], ◌∷◌, length, take, drop, Some, None, Option as Perhaps, sym, refl, ap, ◌∙◌, subst, arith, length-drop}
+use Rattle.engine.specs.declared.key.Key.{Key}
+use Rattle.engine.specs.Engine.{Ans, Got, Entry, Kept}
+use Rattle.engine.specs.Machine.{Frame, looks, works, back, backed}
+use Rattle.memo.specs.Record.{deep}
+use Rattle.memo.specs.Log.{entry_at}
+use Rattle.memo.specs.Says.{Looks}
+use Rattle.driver.specs.declared.state.At.{At}
+use Rattle.driver.specs.declared.state.Now.TheVariants.{Back}
+use Rattle.driver.specs.Rows.{stacked, Stack}
+use Rattle.driver.specs.Says.{memo_in, Heads}
+use Rattle.driver.specs.Doing.{Doing, BackSays, ReturnSays, look_long}
+use Rattle.driver.proofs.Turns.{work_head}
+use Rattle.driver.proofs.Calls.{look_head}
 
-pub frame-seven : (ms rows fs : List ℕ) (fr : Frame) (st : List Frame) → Stack ms rows fs (fr ∷ st) → 7 ≤ length fs
-frame-seven ms rows fs (looks k e g gs) st s = let e1 = ap length (s .1 .words) in omega arith
-frame-seven ms rows fs (works k gs q) st s = let e1 = ap length (s .2 .words) in omega arith
+pub frame_seven : (ms rows fs : List ℕ) (fr : Frame) (st : List Frame) → Stack ms rows fs (fr ∷ st) → 7 ≤ length fs
+frame_seven ms rows fs (looks k e g gs) st s = let e1 = ap length s.1.words in omega arith
+frame_seven ms rows fs (works k gs q) st s = let e1 = ap length s.2.words in omega arith
 
-pub looks-there : (ms rows fs us : List ℕ) (tag : ℕ) (key : Key) (x y z : ℕ) (fr : Frame) (st : List Frame) → tag ≡ 0 → Heads tag key x y z fs us → Stack ms rows fs (fr ∷ st) → Looks ms x y z × (y < length (entry-at ms x .gots))
-looks-there ms rows fs us tag key x y z (looks k e g gs) st p h s =
-    let lk = s .1 in
-    let hd = look-head tag key x y z fs us k (lk .d) (lk .i) (lk .q) (s .0) h (lk .words) in
-    let l = subst (λ q. Looks ms x y q) (sym (hd .place)) (subst (λ i. Looks ms x i (lk .q)) (sym (hd .which)) (subst (λ d. Looks ms d (lk .i) (lk .q)) (sym (hd .depth)) (lk .looks1))) in
-    let ee : entry-at ms x ≡ e = ap (entry-at ms) (hd .depth) ∙ lk .entry in
-    let a = ap length (lk .rest) in
-    let b = length-drop (lk .i) (e .gots) in
-    let c = hd .which in
-    let d = ap (λ (e : Entry). length (e .gots)) ee in
+pub looks_there : (ms rows fs us : List ℕ) (tag : ℕ) (key : Key) (x y z : ℕ) (fr : Frame) (st : List Frame) → tag ≡ 0 → Heads tag key x y z fs us → Stack ms rows fs (fr ∷ st) → Looks ms x y z × (y < length (entry_at ms x).gots)
+looks_there ms rows fs us tag key x y z (looks k e g gs) st p h s =
+    let lk = s.1 in
+    let hd = look_head tag key x y z fs us k lk.d lk.i lk.q s.0 h lk.words in
+    let l = subst (λ q. Looks ms x y q) (sym hd.place) (subst (λ i. Looks ms x i lk.q) (sym hd.which) (subst (λ d. Looks ms d lk.i lk.q) (sym hd.depth) lk.looks1)) in
+    let ee : entry_at ms x ≡ e = ap (entry_at ms) hd.depth ∙ lk.entry in
+    let a = ap length lk.rest in
+    let b = length-drop lk.i e.gots in
+    let c = hd.which in
+    let d = ap (λ (e : Entry). length e.gots) ee in
     (l, omega arith)
-looks-there ms rows fs us tag key x y z (works k gs q) st p h s =
-    let hd = work-head tag key x y z fs us k (length gs) (length (s .0)) q (stacked gs (s .1)) h (s .2 .words) in
-    let t = hd .tag1 in absurd (omega arith)
+looks_there ms rows fs us tag key x y z (works k gs q) st p h s =
+    let hd = work_head tag key x y z fs us k (length gs) (length s.0) q (stacked gs s.1) h s.2.words in
+    let t = hd.tag1 in absurd (omega arith)
 
 module _ (known memo r f n : ℕ) (ws : List ℕ) (tag : ℕ) (key : Key) (x y z : ℕ) (us : List ℕ) (h : Heads tag key x y z (deep f (drop memo ws)) us) where
-  pub return-look : tag ≡ 0 → (vs : List ℕ) (t : Perhaps At) → BackSays known memo r f n ws vs t → ReturnSays known memo r f n ws vs t
-  return-look p vs (Some t) b = (b .0, b .1, go)
+  pub return_look : tag ≡ 0 → (vs : List ℕ) (t : Perhaps At) → BackSays known memo r f n ws vs t → ReturnSays known memo r f n ws vs t
+  return_look p vs (Some t) b = (b.0, b.1, go)
     where
-      go : (m : Kept) (a : Ans) (fr : Frame) (st : List Frame) → Doing (memo-in known memo ws) (drop memo ws) r f (Back n) (back m a (fr ∷ st)) → Doing (memo-in known memo vs) (drop memo vs) (t .rows) (t .frames) (t .now) (backed m a (fr ∷ st))
-      go m a (looks k e g gs) st d = b .2 m a k e g gs st d
-      go m a (works k gs q) st d = let hd = work-head tag key x y z (deep f (drop memo ws)) us k (length gs) (length (d .4 .0)) q (stacked gs (d .4 .1)) h (d .4 .2 .words) in let e = hd .tag1 in absurd (omega arith)
-  return-look p vs None b = (b .0, go)
+      go : (m : Kept) (a : Ans) (fr : Frame) (st : List Frame) → Doing (memo_in known memo ws) (drop memo ws) r f (Back n) (back m a (fr ∷ st)) → Doing (memo_in known memo vs) (drop memo vs) t.rows t.frames t.now (backed m a (fr ∷ st))
+      go m a (looks k e g gs) st d = b.2 m a k e g gs st d
+      go m a (works k gs q) st d = let hd = work_head tag key x y z (deep f (drop memo ws)) us k (length gs) (length d.4.0) q (stacked gs d.4.1) h d.4.2.words in let e = hd.tag1 in absurd (omega arith)
+  return_look p vs None b = (b.0, go)
     where
-      go : (m : Kept) (a : Ans) (fr : Frame) (st : List Frame) → Doing (memo-in known memo ws) (drop memo ws) r f (Back n) (back m a (fr ∷ st)) → length ws < memo + (r + f) + (7 + look-long fr)
-      go m a (looks k e g gs) st d = b .1 m a k e g gs st d
-      go m a (works k gs q) st d = let hd = work-head tag key x y z (deep f (drop memo ws)) us k (length gs) (length (d .4 .0)) q (stacked gs (d .4 .1)) h (d .4 .2 .words) in let e = hd .tag1 in absurd (omega arith)
+      go : (m : Kept) (a : Ans) (fr : Frame) (st : List Frame) → Doing (memo_in known memo ws) (drop memo ws) r f (Back n) (back m a (fr ∷ st)) → length ws < memo + (r + f) + (7 + look_long fr)
+      go m a (looks k e g gs) st d = b.1 m a k e g gs st d
+      go m a (works k gs q) st d = let hd = work_head tag key x y z (deep f (drop memo ws)) us k (length gs) (length d.4.0) q (stacked gs d.4.1) h d.4.2.words in let e = hd.tag1 in absurd (omega arith)
 
-  pub return-work : (tag ≡ 0 → ⊥) → (ms v : List ℕ) (t : At) → ((m : Kept) (a : Ans) (k : Key) (gs : List Got) (q : Key) (st : List Frame) → Doing (memo-in known memo ws) (drop memo ws) r f (Back n) (back m a (works k gs q ∷ st)) → Doing ms v (t .rows) (t .frames) (t .now) (backed m a (works k gs q ∷ st)))
-      → (m : Kept) (a : Ans) (fr : Frame) (st : List Frame) → Doing (memo-in known memo ws) (drop memo ws) r f (Back n) (back m a (fr ∷ st)) → Doing ms v (t .rows) (t .frames) (t .now) (backed m a (fr ∷ st))
-  return-work p ms v t b m a (works k gs q) st d = b m a k gs q st d
-  return-work p ms v t b m a (looks k e g gs) st d = let lk = d .4 .1 in let hd = look-head tag key x y z (deep f (drop memo ws)) us k (lk .d) (lk .i) (lk .q) (d .4 .0) h (lk .words) in absurd (p (hd .tag1))
+  pub return_work : (tag ≡ 0 → ⊥) → (ms v : List ℕ) (t : At) → ((m : Kept) (a : Ans) (k : Key) (gs : List Got) (q : Key) (st : List Frame) → Doing (memo_in known memo ws) (drop memo ws) r f (Back n) (back m a (works k gs q ∷ st)) → Doing ms v t.rows t.frames t.now (backed m a (works k gs q ∷ st)))
+      → (m : Kept) (a : Ans) (fr : Frame) (st : List Frame) → Doing (memo_in known memo ws) (drop memo ws) r f (Back n) (back m a (fr ∷ st)) → Doing ms v t.rows t.frames t.now (backed m a (fr ∷ st))
+  return_work p ms v t b m a (works k gs q) st d = b m a k gs q st d
+  return_work p ms v t b m a (looks k e g gs) st d = let lk = d.4.1 in let hd = look_head tag key x y z (deep f (drop memo ws)) us k lk.d lk.i lk.q d.4.0 h lk.words in absurd (p hd.tag1)

@@ -1,45 +1,40 @@
 -- An entry stored in the memo, in the whole row: what the memo is then is what it is where the entry is stored in it alone.
-use mathlib.Core.Path.{_≡_, refl, sym, ap, subst, _∙_}
-use mathlib.Core.Bool.{true, false}
-use mathlib.Core.List.{List, [], _∷_, _++_}
-use Prim.Native.Nat.{ℕ, zero, suc, _+_, _-_, _*_, _≤_, _<_}
-use native.Mathlib.Omega.{arith}
-use lib.ListN.{length, getD, take, drop, set, length-set, length-drop}
+use Rattle.std.proofs.Common.{◌≡◌, ℕ, zero, suc, ◌+◌, ◌-◌, ◌*◌, ◌<◌, ◌≤◌, true, false, List, [], ◌∷◌, ◌++◌, length, get_or, take, drop, set, sym, refl, ap, ◌∙◌, subst, arith, length-drop, length-set}
 use lib.Seq.{take-set-lt}
-use Rattle·std.proofs.shelf.Lists.{drop-drop, drop-take, drop-append-le, drop-set-add, drop-set-lt, take-set-le, length-take-le, take-take}
-use Rattle·engine.specs.declared.key.Key.{Key}
-use Rattle·engine.specs.Engine.{Ans, Got, answers}
-use Rattle·engine.specs.Says.{row}
-use Rattle·memo.specs.Record.{puts, packed, made, gots-of, row-long}
-use Rattle·memo.specs.Log.{bucket, Fits, pointed}
-use Rattle·memo.specs.Rows.{keys}
-use Rattle·memo.specs.Says.{Keeps, StoreSays}
-use Rattle·memo.proofs.Rows.{gots-are, keys-long, row-whole}
-use Rattle·memo.proofs.Packs.{packed-long}
-use Rattle·memo.proofs.Puts.{length-puts, take-puts}
-use Rattle·memo.proofs.Appends.{append-fits, append-says, append-keeps, refused, keeps-self}
-use Rattle·driver·specs.Says.{memo-in, StoredIn}
-use Rattle·driver·proofs.Words.{drop-past}
-use Rattle·driver·proofs.Memos.{memo-long}
+use Rattle.std.proofs.lemmas.List.{drop-drop, drop-take, drop-append-le, drop-set-add, drop-set-lt, take-set-le, length-take-le, take-take}
+use Rattle.engine.specs.declared.key.Key.{Key}
+use Rattle.engine.specs.Engine.{Ans, Got, answers}
+use Rattle.engine.specs.Says.{row}
+use Rattle.memo.specs.Record.{puts, packed, made, gots_of, row_long}
+use Rattle.memo.specs.Log.{bucket, Fits, pointed}
+use Rattle.memo.specs.Rows.{keys}
+use Rattle.memo.specs.Says.{Keeps, StoreSays}
+use Rattle.memo.proofs.Rows.{gots_are, keys_long, row_whole}
+use Rattle.memo.proofs.Packs.{packed_long}
+use Rattle.memo.proofs.Puts.{length_puts, take_puts}
+use Rattle.memo.proofs.Appends.{append_fits, append_says, append_keeps, refused, keeps_self}
+use Rattle.driver.specs.Says.{memo_in, StoredIn}
+use Rattle.driver.proofs.Words.{drop_past}
+use Rattle.driver.proofs.Memos.{memo_long}
 
-take-beyond : (xs ys : List ℕ) (m j : ℕ) → m ≡ length xs + j → take m (xs ++ ys) ≡ xs ++ take j ys
-take-beyond [] ys m j e = let z : m ≡ j = omega arith in ap (λ n. take n ys) z
-take-beyond (x ∷ xs) ys m j e = let z : m ≡ suc (length xs + j) = omega arith in ap (λ n. take n (x ∷ (xs ++ ys))) z ∙ ap (λ l. x ∷ l) (take-beyond xs ys (length xs + j) j refl)
+take_beyond : (xs ys : List ℕ) (m j : ℕ) → m ≡ length xs + j → take m (xs ++ ys) ≡ xs ++ take j ys
+take_beyond [] ys m j e = let z : m ≡ j = omega arith in ap (λ n. take n ys) z
+take_beyond (x ∷ xs) ys m j e = let z : m ≡ suc (length xs + j) = omega arith in ap (λ n. take n (x ∷ (xs ++ ys))) z ∙ ap (λ l. x ∷ l) (take_beyond xs ys (length xs + j) j refl)
 
-take-puts-in : (i : ℕ) (xs ws : List ℕ) (m : ℕ) → i + length xs ≤ m → m ≤ length ws → take m (puts i xs ws) ≡ puts i xs (take m ws)
-take-puts-in i xs ws m h k =
+take_puts_in : (i : ℕ) (xs ws : List ℕ) (m : ℕ) → i + length xs ≤ m → m ≤ length ws → take m (puts i xs ws) ≡ puts i xs (take m ws)
+take_puts_in i xs ws m h k =
     let l = length-take-le i ws (omega arith) in
     let n = i + length xs in
     let z : m ≡ n + (m - n) = omega arith in
     let a : take i ws ≡ take i (take m ws) = sym (short i m ws (omega arith)) in
     let b : take (m - n) (drop n ws) ≡ drop n (take m ws) = sym (drop-take n (m - n) ws) ∙ ap (λ j. drop n (take j ws)) (sym z) in
-    take-beyond (take i ws) (xs ++ drop n ws) m (m - i) (omega arith) ∙ ap (λ q. take i ws ++ q) (take-beyond xs (drop n ws) (m - i) (m - n) (omega arith)) ∙ (λ t. a t ++ (xs ++ b t))
+    take_beyond (take i ws) (xs ++ drop n ws) m (m - i) (omega arith) ∙ ap (λ q. take i ws ++ q) (take_beyond xs (drop n ws) (m - i) (m - n) (omega arith)) ∙ (λ t. a t ++ (xs ++ b t))
   where
     short : (i m : ℕ) (ws : List ℕ) → i ≤ m → take i (take m ws) ≡ take i ws
     short i m ws h = take-take i m ws h
 
-pub drop-puts-in : (i : ℕ) (xs ws : List ℕ) (k : ℕ) → k ≤ i → i + length xs ≤ length ws → drop k (puts i xs ws) ≡ puts (i - k) xs (drop k ws)
-drop-puts-in i xs ws k h r =
+pub drop_puts_in : (i : ℕ) (xs ws : List ℕ) (k : ℕ) → k ≤ i → i + length xs ≤ length ws → drop k (puts i xs ws) ≡ puts (i - k) xs (drop k ws)
+drop_puts_in i xs ws k h r =
     let l = length-take-le i ws (omega arith) in
     let n = i + length xs in
     let z : i ≡ k + (i - k) = omega arith in
@@ -49,79 +44,79 @@ drop-puts-in i xs ws k h r =
     drop-append-le k (take i ws) (xs ++ drop n ws) (omega arith) ∙ (λ t. a t ++ (xs ++ b t))
 
 -- words put into the memo's part of the row
-pub memo-puts : (known memo p : ℕ) (xs ws : List ℕ) → known ≤ p → p + length xs ≤ memo → memo ≤ length ws → memo-in known memo (puts p xs ws) ≡ puts (p - known) xs (memo-in known memo ws)
-memo-puts known memo p xs ws h k l =
+pub memo_puts : (known memo p : ℕ) (xs ws : List ℕ) → known ≤ p → p + length xs ≤ memo → memo ≤ length ws → memo_in known memo (puts p xs ws) ≡ puts (p - known) xs (memo_in known memo ws)
+memo_puts known memo p xs ws h k l =
     let d = length-drop known ws in
-    ap (take (memo - known)) (drop-puts-in p xs ws known h (omega arith)) ∙ take-puts-in (p - known) xs (drop known ws) (memo - known) (omega arith) (omega arith)
+    ap (take (memo - known)) (drop_puts_in p xs ws known h (omega arith)) ∙ take_puts_in (p - known) xs (drop known ws) (memo - known) (omega arith) (omega arith)
 
-memo-set : (known memo i v : ℕ) (ws : List ℕ) → i < memo - known → memo-in known memo (set ws (known + i) v) ≡ set (memo-in known memo ws) i v
-memo-set known memo i v ws h = ap (take (memo - known)) (drop-set-add known ws i v) ∙ take-set-lt (memo - known) (drop known ws) i v h
+memo_set : (known memo i v : ℕ) (ws : List ℕ) → i < memo - known → memo_in known memo (set ws (known + i) v) ≡ set (memo_in known memo ws) i v
+memo_set known memo i v ws h = ap (take (memo - known)) (drop-set-add known ws i v) ∙ take-set-lt (memo - known) (drop known ws) i v h
 
 -- the three words of the index written
 module _ (known memo b h d n : ℕ) (ws vs : List ℕ) (e : vs ≡ set (set (set ws (known + (3 + b)) h) (known + 0) d) (known + 1) n) (l : 3 + b < memo - known) where
-  pub memo-pointed : memo-in known memo vs ≡ pointed (memo-in known memo ws) b h d n
-  memo-pointed =
+  pub memo_pointed : memo_in known memo vs ≡ pointed (memo_in known memo ws) b h d n
+  memo_pointed =
       let x = set ws (known + (3 + b)) h in
       let y = set x (known + 0) d in
-      ap (memo-in known memo) e ∙ memo-set known memo 1 n y (omega arith) ∙ ap (λ q. set q 1 n) (memo-set known memo 0 d x (omega arith) ∙ ap (λ q. set q 0 d) (memo-set known memo (3 + b) h ws l))
+      ap (memo_in known memo) e ∙ memo_set known memo 1 n y (omega arith) ∙ ap (λ q. set q 1 n) (memo_set known memo 0 d x (omega arith) ∙ ap (λ q. set q 0 d) (memo_set known memo (3 + b) h ws l))
 
-  pub pointed-before : take known vs ≡ take known ws
-  pointed-before =
+  pub pointed_before : take known vs ≡ take known ws
+  pointed_before =
       let x = set ws (known + (3 + b)) h in
       let y = set x (known + 0) d in
       ap (take known) e ∙ take-set-le known y (known + 1) n (omega arith) ∙ take-set-le known x (known + 0) d (omega arith) ∙ take-set-le known ws (known + (3 + b)) h (omega arith)
 
-  pub pointed-behind : drop memo vs ≡ drop memo ws
-  pointed-behind =
+  pub pointed_behind : drop memo vs ≡ drop memo ws
+  pointed_behind =
       let x = set ws (known + (3 + b)) h in
       let y = set x (known + 0) d in
       ap (drop memo) e ∙ drop-set-lt memo y (known + 1) n (omega arith) ∙ drop-set-lt memo x (known + 0) d (omega arith) ∙ drop-set-lt memo ws (known + (3 + b)) h (omega arith)
 
 -- a record put in front of the log, from its parts
-module _ (known memo : ℕ) (ws : List ℕ) (low : known ≤ memo) (high : memo ≤ length ws) (f : Fits (memo-in known memo ws)) (k : Key) (ans : Ans) (count : ℕ) (ks rs : List ℕ) (kl : length ks ≡ 3 * count) (rl : row-long count rs ≡ length rs) where
+module _ (known memo : ℕ) (ws : List ℕ) (low : known ≤ memo) (high : memo ≤ length ws) (f : Fits (memo_in known memo ws)) (k : Key) (ans : Ans) (count : ℕ) (ks rs : List ℕ) (kl : length ks ≡ 3 * count) (rl : row_long count rs ≡ length rs) where
   abbrev ms : List ℕ
-  ms = memo-in known memo ws
+  ms = memo_in known memo ws
 
   abbrev long : ℕ
   long = 7 + (length ans + (length ks + length rs))
 
-  pub put-refused : length ms - (3 + getD ms 2 0 + getD ms 0 0) < long → StoredIn known memo (made k ans (gots-of count ks rs)) ws ws false
-  put-refused h = record { fits = f; says = refused ms k ans count ks rs kl rl h; keeps = keeps-self ms; before = refl; behind = refl }
+  pub put_refused : length ms - (3 + get_or ms 2 0 + get_or ms 0 0) < long → StoredIn known memo (made k ans (gots_of count ks rs)) ws ws false
+  put_refused h = record { fits = f; says = refused ms k ans count ks rs kl rl h; keeps = keeps_self ms; before = refl; behind = refl }
 
-  pub put-done : (b : ℕ) → b ≡ bucket k (getD ms 2 0) → b < getD ms 2 0 → long ≤ length ms - (3 + getD ms 2 0 + getD ms 0 0)
-      → (us vs : List ℕ) (p : ℕ) → p ≡ memo - getD ms 0 0 - long → us ≡ puts p (packed k (getD ms (3 + b) 0) ans count ks rs) ws
-      → vs ≡ set (set (set us (known + (3 + b)) (getD ms 0 0 + long)) (known + 0) (getD ms 0 0 + long)) (known + 1) (getD ms 1 0 + 1)
-      → StoredIn known memo (made k ans (gots-of count ks rs)) ws vs true
-  put-done b eb bl fit us vs p ep eu ev =
-      let part = packed k (getD ms (3 + b) 0) ans count ks rs in
-      let pl = packed-long k (getD ms (3 + b) 0) ans count ks rs [] kl rl in
-      let ml = memo-long ws known memo low high in
-      let room = f .room in
-      let z : p - known ≡ length ms - getD ms 0 0 - long = omega arith in
-      let d = getD ms 0 0 + long in
-      let mu : memo-in known memo us ≡ puts (length ms - getD ms 0 0 - long) part ms = ap (memo-in known memo) eu ∙ memo-puts known memo p part ws (omega arith) (omega arith) high ∙ ap (λ j. puts j part ms) z in
-      let mv = memo-pointed known memo b d d (getD ms 1 0 + 1) us vs ev (omega arith) ∙ ap (λ q. pointed q b d d (getD ms 1 0 + 1)) mu in
+  pub put_done : (b : ℕ) → b ≡ bucket k (get_or ms 2 0) → b < get_or ms 2 0 → long ≤ length ms - (3 + get_or ms 2 0 + get_or ms 0 0)
+      → (us vs : List ℕ) (p : ℕ) → p ≡ memo - get_or ms 0 0 - long → us ≡ puts p (packed k (get_or ms (3 + b) 0) ans count ks rs) ws
+      → vs ≡ set (set (set us (known + (3 + b)) (get_or ms 0 0 + long)) (known + 0) (get_or ms 0 0 + long)) (known + 1) (get_or ms 1 0 + 1)
+      → StoredIn known memo (made k ans (gots_of count ks rs)) ws vs true
+  put_done b eb bl fit us vs p ep eu ev =
+      let part = packed k (get_or ms (3 + b) 0) ans count ks rs in
+      let pl = packed_long k (get_or ms (3 + b) 0) ans count ks rs [] kl rl in
+      let ml = memo_long ws known memo low high in
+      let room = f.room in
+      let z : p - known ≡ length ms - get_or ms 0 0 - long = omega arith in
+      let d = get_or ms 0 0 + long in
+      let mu : memo_in known memo us ≡ puts (length ms - get_or ms 0 0 - long) part ms = ap (memo_in known memo) eu ∙ memo_puts known memo p part ws (omega arith) (omega arith) high ∙ ap (λ j. puts j part ms) z in
+      let mv = memo_pointed known memo b d d (get_or ms 1 0 + 1) us vs ev (omega arith) ∙ ap (λ q. pointed q b d d (get_or ms 1 0 + 1)) mu in
       record {
-        fits = subst Fits (sym mv) (append-fits ms f k ans count ks rs kl rl b eb fit);
-        says = subst (λ v. StoreSays (made k ans (gots-of count ks rs)) ms v true) (sym mv) (append-says ms f k ans count ks rs kl rl b eb fit);
-        keeps = subst (Keeps ms) (sym mv) (append-keeps ms f k ans count ks rs kl rl b eb fit);
-        before = pointed-before known memo b d d (getD ms 1 0 + 1) us vs ev (omega arith) ∙ ap (take known) eu ∙ take-puts p part ws known (omega arith) (omega arith);
-        behind = pointed-behind known memo b d d (getD ms 1 0 + 1) us vs ev (omega arith) ∙ ap (drop memo) eu ∙ drop-past p part ws memo (omega arith) (omega arith);
+        fits = subst Fits (sym mv) (append_fits ms f k ans count ks rs kl rl b eb fit);
+        says = subst (λ v. StoreSays (made k ans (gots_of count ks rs)) ms v true) (sym mv) (append_says ms f k ans count ks rs kl rl b eb fit);
+        keeps = subst (Keeps ms) (sym mv) (append_keeps ms f k ans count ks rs kl rl b eb fit);
+        before = pointed_before known memo b d d (get_or ms 1 0 + 1) us vs ev (omega arith) ∙ ap (take known) eu ∙ take_puts p part ws known (omega arith) (omega arith);
+        behind = pointed_behind known memo b d d (get_or ms 1 0 + 1) us vs ev (omega arith) ∙ ap (drop memo) eu ∙ drop_past p part ws memo (omega arith) (omega arith);
       }
 
 -- an entry of a rule that is done
-module _ (known memo : ℕ) (ws : List ℕ) (low : known ≤ memo) (high : memo ≤ length ws) (f : Fits (memo-in known memo ws)) (k : Key) (ans : Ans) (gs : List Got) where
+module _ (known memo : ℕ) (ws : List ℕ) (low : known ≤ memo) (high : memo ≤ length ws) (f : Fits (memo_in known memo ws)) (k : Key) (ans : Ans) (gs : List Got) where
   abbrev ns : List ℕ
-  ns = memo-in known memo ws
+  ns = memo_in known memo ws
 
   abbrev size1 : ℕ
   size1 = 7 + (length ans + (length (keys gs) + length (row (answers gs))))
 
-  pub store-refused : length ns - (3 + getD ns 2 0 + getD ns 0 0) < size1 → StoredIn known memo (made k ans gs) ws ws false
-  store-refused h = subst (λ q. StoredIn known memo (made k ans q) ws ws false) (gots-are gs) (put-refused known memo ws low high f k ans (length gs) (keys gs) (row (answers gs)) (keys-long gs) (row-whole gs) h)
+  pub store_refused : length ns - (3 + get_or ns 2 0 + get_or ns 0 0) < size1 → StoredIn known memo (made k ans gs) ws ws false
+  store_refused h = subst (λ q. StoredIn known memo (made k ans q) ws ws false) (gots_are gs) (put_refused known memo ws low high f k ans (length gs) (keys gs) (row (answers gs)) (keys_long gs) (row_whole gs) h)
 
-  pub store-done : (b : ℕ) → b ≡ bucket k (getD ns 2 0) → b < getD ns 2 0 → size1 ≤ length ns - (3 + getD ns 2 0 + getD ns 0 0)
-      → (us vs : List ℕ) (p : ℕ) → p ≡ memo - getD ns 0 0 - size1 → us ≡ puts p (packed k (getD ns (3 + b) 0) ans (length gs) (keys gs) (row (answers gs))) ws
-      → vs ≡ set (set (set us (known + (3 + b)) (getD ns 0 0 + size1)) (known + 0) (getD ns 0 0 + size1)) (known + 1) (getD ns 1 0 + 1)
+  pub store_done : (b : ℕ) → b ≡ bucket k (get_or ns 2 0) → b < get_or ns 2 0 → size1 ≤ length ns - (3 + get_or ns 2 0 + get_or ns 0 0)
+      → (us vs : List ℕ) (p : ℕ) → p ≡ memo - get_or ns 0 0 - size1 → us ≡ puts p (packed k (get_or ns (3 + b) 0) ans (length gs) (keys gs) (row (answers gs))) ws
+      → vs ≡ set (set (set us (known + (3 + b)) (get_or ns 0 0 + size1)) (known + 0) (get_or ns 0 0 + size1)) (known + 1) (get_or ns 1 0 + 1)
       → StoredIn known memo (made k ans gs) ws vs true
-  store-done b eb bl fit us vs p ep eu ev = subst (λ q. StoredIn known memo (made k ans q) ws vs true) (gots-are gs) (put-done known memo ws low high f k ans (length gs) (keys gs) (row (answers gs)) (keys-long gs) (row-whole gs) b eb bl fit us vs p ep eu ev)
+  store_done b eb bl fit us vs p ep eu ev = subst (λ q. StoredIn known memo (made k ans q) ws vs true) (gots_are gs) (put_done known memo ws low high f k ans (length gs) (keys gs) (row (answers gs)) (keys_long gs) (row_whole gs) b eb bl fit us vs p ep eu ev)

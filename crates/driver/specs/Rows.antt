@@ -16,47 +16,44 @@
 --
 -- An answer that comes back stands one word behind the newest row: with its length put before it, it is the row's next. A rule that is
 -- told has no frame: its row is the newest, and the keys that it asked stand in front of the frames.
-use mathlib.Core.Path.{_≡_}
-use mathlib.Core.List.{List, [], _∷_, _++_}
-use Prim.Native.Nat.{ℕ}
-use lib.ListN.{length, drop}
-use Rattle·engine.specs.declared.key.Key.{Key}
-use Rattle·engine.specs.Engine.{Ans, Got, Entry, answers}
-use Rattle·engine.specs.Says.{row}
-use Rattle·engine.specs.Machine.{Frame, looks, works}
-use Rattle·memo.specs.Log.{entry-at}
-use Rattle·memo.specs.Says.{Looks}
+use Rattle.std.specs.Prelude.{◌≡◌, ℕ, List, [], ◌∷◌, ◌++◌, length, drop}
+use Rattle.engine.specs.declared.key.Key.{Key}
+use Rattle.engine.specs.Engine.{Ans, Got, Entry, answers}
+use Rattle.engine.specs.Says.{row}
+use Rattle.engine.specs.Machine.{Frame, looks, works}
+use Rattle.memo.specs.Log.{entry_at}
+use Rattle.memo.specs.Says.{Looks}
 
 -- a key's words, in front of others
-abbrev pub key-words : Key → List ℕ → List ℕ
-key-words k ws = k .kind ∷ k .a ∷ k .b ∷ ws
+abbrev pub key_words : Key → List ℕ → List ℕ
+key_words k ws = k.kind ∷ k.a ∷ k.b ∷ ws
 
 -- the keys that were asked, the newest first, in front of others
 abbrev pub stacked : List Got → List ℕ → List ℕ
 stacked [] ws = ws
-stacked (g ∷ gs) ws = stacked gs (key-words (g .key) ws)
+stacked (g ∷ gs) ws = stacked gs (key_words g.key ws)
 
 -- the first words of a frame that looks, and of one that works
-abbrev pub look-words : Key → ℕ → ℕ → ℕ → List ℕ → List ℕ
-look-words k d i q ws = 0 ∷ key-words k (d ∷ i ∷ q ∷ ws)
+abbrev pub look_words : Key → ℕ → ℕ → ℕ → List ℕ → List ℕ
+look_words k d i q ws = 0 ∷ key_words k (d ∷ i ∷ q ∷ ws)
 
-abbrev pub work-words : Key → ℕ → ℕ → Key → List ℕ → List ℕ
-work-words k n from q ws = 1 ∷ key-words k (n ∷ from ∷ 0 ∷ key-words q ws)
+abbrev pub work_words : Key → ℕ → ℕ → Key → List ℕ → List ℕ
+work_words k n from q ws = 1 ∷ key_words k (n ∷ from ∷ 0 ∷ key_words q ws)
 
 -- a frame that looks, in front of the frames us: its record and its question stand in the memo ms
 pub record Looking (ms fs us : List ℕ) (k : Key) (e : Entry) (g : Got) (gs : List Got) : Type 0 where
   pub d : ℕ
   pub i : ℕ
   pub q : ℕ
-  pub words : fs ≡ look-words k d i q us
+  pub words : fs ≡ look_words k d i q us
   pub looks1 : Looks ms d i q
-  pub entry : entry-at ms d ≡ e
-  pub rest : drop i (e .gots) ≡ g ∷ gs
+  pub entry : entry_at ms d ≡ e
+  pub rest : drop i e.gots ≡ g ∷ gs
 
 -- a frame that works, in front of the frames us, with its row behind the rows vs
 pub record Working (rows vs fs us : List ℕ) (k : Key) (gs : List Got) (q : Key) : Type 0 where
   pub row1 : rows ≡ vs ++ row (answers gs)
-  pub words : fs ≡ work-words k (length gs) (length vs) q (stacked gs us)
+  pub words : fs ≡ work_words k (length gs) (length vs) q (stacked gs us)
 
 -- the rows and the frames are those of a stack
 abbrev pub Stack : List ℕ → List ℕ → List ℕ → List Frame → Type 0

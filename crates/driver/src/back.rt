@@ -1,31 +1,25 @@
 // An answer that comes back to the newest frame.
-ghost use denote.Ref.{now};
-ghost use mathlib.Core.Path.{_≡_};
-ghost use mathlib.Core.List.{List, [], _∷_, _++_};
-ghost use Prim.Native.Nat.{ℕ, _+_, _-_, _<_, _≤_};
-ghost use lib.ListN.{length, take, drop};
-ghost use Rattle·engine.specs.Engine.{Ans, Kept, Got};
-ghost use Rattle·engine.specs.declared.key.Key.{Key};
-ghost use Rattle·engine.specs.Machine.{Frame, works, State, back, backed};
-ghost use Rattle·memo.specs.Record.{deep};
-ghost use Rattle·memo.specs.Log.{entry-at};
-ghost use Rattle·memo.specs.Says.{Looks};
-ghost use Rattle·driver·specs.Says.{memo-in, Heads};
-ghost use Rattle·driver·specs.Doing.{Doing, Area, BackSays, ReturnSays};
+ghost use Rattle.std.specs.Prelude.{◌≡◌, ℕ, ◌+◌, ◌-◌, ◌<◌, ◌≤◌, List, [], ◌∷◌, ◌++◌, length, drop};
+ghost use Rattle.engine.specs.Engine.{Ans, Kept, Got};
+ghost use Rattle.engine.specs.declared.key.Key.{Key};
+ghost use Rattle.engine.specs.Machine.{Frame, works, State, back, backed};
+ghost use Rattle.memo.specs.Record.{deep};
+ghost use Rattle.memo.specs.Log.{entry_at};
+ghost use Rattle.memo.specs.Says.{Looks};
+ghost use Rattle.driver.specs.Says.{memo_in, Heads};
+ghost use Rattle.driver.specs.Doing.{Doing, Area, BackSays, ReturnSays};
+
 use crate::look::look;
-use crate::stack::Head;
-use crate::stack::add_answer;
-use crate::stack::newest;
-use crate::state::At;
-use crate::state::Now;
+use crate::stack::{Head, add_answer, newest};
+use crate::state::{At, Now};
 use crate::within::compare;
 
 // An answer of n words comes back to a frame that works, whose first words are h: it is the row's next, and the rule is told.
 pub fn back_work(work: &mut [u32], r: usize, f: usize, n: usize, h: &Head) -> At
-    requires room { ⌜ (r + 1 + n + f ≤ length (now work)) × (7 ≤ f) × (length (now work) < 4294967296) ⌝ }
-    requires reads { ⌜ Heads (now h .tag) (now h .key) (now h .x) (now h .y) (now h .z) (deep f (now work)) (deep (f - 7) (now work)) ⌝ }
-    ensures room { λ t. ⌜ t .rows + t .frames ≤ length (now (work .entry)) ⌝ }
-    ensures says { λ t. ⌜ ((ms : List ℕ) (m : Kept) (a : List ℕ) (k : Key) (gs : List Got) (q : Key) (st : List Frame) → Doing ms (now (work .entry)) r f (Now.Back n) (back m a (works k gs q ∷ st)) → Doing ms (now (work .exit)) (t .rows) (t .frames) (t .now) (backed m a (works k gs q ∷ st))) ⌝ }
+    requires room { (r + 1 + n + f ≤ length work.old) × (7 ≤ f) × (length work.old < 4294967296) }
+    requires reads { Heads h.now.tag h.now.key h.now.x h.now.y h.now.z (deep f work.old) (deep (f - 7) work.old) }
+    ensures room { result.rows + result.frames ≤ length work.old }
+    ensures says { (ms : List ℕ) (m : Kept) (a : List ℕ) (k : Key) (gs : List Got) (q : Key) (st : List Frame) → Doing ms work.old r f (Now.Back n) (back m a (works k gs q ∷ st)) → Doing ms work.new result.rows result.frames result.now (backed m a (works k gs q ∷ st)) }
 {
     add_answer(work, r, n);
     At {
@@ -46,11 +40,11 @@ pub fn back_look(
     n: usize,
     h: &Head,
 ) -> Option<At>
-    requires area { ⌜ Area (now mem) known memo r f ⌝ }
-    requires room { ⌜ (memo + (r + (1 + (n + f))) ≤ length (now mem)) × (7 ≤ f) ⌝ }
-    requires reads { ⌜ Heads (now h .tag) (now h .key) (now h .x) (now h .y) (now h .z) (deep f (drop memo (now mem))) (deep (f - 7) (drop memo (now mem))) ⌝ }
-    requires looks { ⌜ Looks (memo-in known memo (now mem)) (now h .x) (now h .y) (now h .z) ⌝ ∗ ⌜ now h .y < length (entry-at (memo-in known memo (now mem)) (now h .x) .gots) ⌝ }
-    ensures { λ t. ⌜ BackSays known memo r f n (now (mem .entry)) (now (mem .exit)) t ⌝ }
+    requires area { Area mem.old known memo r f }
+    requires room { (memo + (r + (1 + (n + f))) ≤ length mem.old) × (7 ≤ f) }
+    requires reads { Heads h.now.tag h.now.key h.now.x h.now.y h.now.z (deep f (drop memo mem.old)) (deep (f - 7) (drop memo mem.old)) }
+    requires looks { (Looks (memo_in known memo mem.old) h.now.x h.now.y h.now.z) × (h.now.y < length (entry_at (memo_in known memo mem.old) h.now.x).gots) }
+    ensures { BackSays known memo r f n mem.old mem.new result }
 {
     let d = h.x as usize;
     let i = h.y as usize;
@@ -74,9 +68,9 @@ pub fn back_frame(
     f: usize,
     n: usize,
 ) -> Option<At>
-    requires area { ⌜ Area (now mem) known memo r f ⌝ }
-    requires there { ⌜ ((m : Kept) × (a : Ans) × (fr : Frame) × (st : List Frame) × Doing (memo-in known memo (now mem)) (drop memo (now mem)) r f (Now.Back n) (back m a (fr ∷ st))) ⌝ }
-    ensures { λ t. ⌜ ReturnSays known memo r f n (now (mem .entry)) (now (mem .exit)) t ⌝ }
+    requires area { Area mem.old known memo r f }
+    requires there { (m : Kept) × (a : Ans) × (fr : Frame) × (st : List Frame) × Doing (memo_in known memo mem.old) (drop memo mem.old) r f (Now.Back n) (back m a (fr ∷ st)) }
+    ensures { ReturnSays known memo r f n mem.old mem.new result }
 {
     let h = newest(&mem[memo..], f);
     if h.tag == 0 {

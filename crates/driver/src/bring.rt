@@ -1,18 +1,14 @@
 // A key brought up to date, in one lent row of words.
-ghost use denote.Ref.{now};
-ghost use mathlib.Core.Path.{_≡_};
-ghost use mathlib.Core.Bool.{true};
-ghost use Prim.Native.Nat.{ℕ, _+_, _<_, _≤_};
-ghost use lib.ListN.{length, take, drop};
-ghost use Rattle·engine.specs.Says.{kept, BringSays};
-ghost use Rattle·engine.specs.Theorems.{Falls, Honest};
-ghost use Rattle·memo.specs.Log.{kept-entries};
-ghost use Rattle·memo.specs.Whether.{memo-fits};
+ghost use Rattle.std.specs.Prelude.{◌≡◌, ℕ, ◌+◌, ◌<◌, ◌≤◌, true, length, take, drop};
+ghost use Rattle.engine.specs.Says.{kept, BringSays};
+ghost use Rattle.engine.specs.Theorems.{Falls, Honest};
+ghost use Rattle.memo.specs.Log.{kept_entries};
+ghost use Rattle.memo.specs.Whether.{memo_fits};
+
 use crate::repack::tidy;
 use crate::run::run;
 use engine::key::Key;
-use engine::rules::Inputs;
-use engine::rules::Rules;
+use engine::rules::{Inputs, Rules};
 
 // A key's answer, brought up to date, for any rules: it can be had from the rules alone, and they count. In the lent words stand what
 // inputs are read from, up to known; entries, up to memo; and behind that there's room to work in, at whose front the answer stands. None
@@ -26,16 +22,16 @@ pub fn bring<R: Rules, I: Inputs>(
     inputs: &I,
     k: &Key,
 ) -> Option<usize>
-    requires row { ⌜ (known ≤ memo) × (memo ≤ length (now mem)) × (length (now mem) < 4294967296) × (memo-fits (drop known (take memo (now mem))) ≡ true) ⌝ }
-    requires falls { ⌜ Falls (R·Rules .book (now rules)) ⌝ }
-    requires honest { ⌜ Honest (R·Rules .book (now rules)) (kept (kept-entries (drop known (take memo (now mem))))) ⌝ }
-    requires runs1 { ⌜ R·Rules .runs (now rules) < 4611686018427387904 ⌝ }
-    ensures book1 { λ _. ⌜ R·Rules .book (now (rules .exit)) ≡ R·Rules .book (now (rules .entry)) ⌝ }
-    ensures row { λ _. ⌜ (length (now (mem .exit)) ≡ length (now (mem .entry))) × (memo-fits (drop known (take memo (now (mem .exit)))) ≡ true) ⌝ }
-    ensures before { λ _. ⌜ take known (now (mem .exit)) ≡ take known (now (mem .entry)) ⌝ }
-    ensures honest { λ _. ⌜ Honest (R·Rules .book (now (rules .exit))) (kept (kept-entries (drop known (take memo (now (mem .exit)))))) ⌝ }
-    ensures runs1 { λ _. ⌜ R·Rules .runs (now (rules .exit)) ≤ R·Rules .runs (now (rules .entry)) + length (now (mem .entry)) ⌝ }
-    ensures says { λ r. ⌜ BringSays (R·Rules .book (now (rules .entry))) (I·Inputs .given (now (inputs .entry)) (take known (now (mem .entry)))) (now (k .entry)) (kept-entries (drop known (take memo (now (mem .entry))))) (kept-entries (drop known (take memo (now (mem .exit))))) (R·Rules .runs (now (rules .entry))) (R·Rules .runs (now (rules .exit))) (length (drop known (take memo (now (mem .entry))))) (length (drop memo (now (mem .entry)))) (drop memo (now (mem .entry))) (drop memo (now (mem .exit))) r ⌝ }
+    requires row { (known ≤ memo) × (memo ≤ length mem.old) × (length mem.old < 4294967296) × (memo_fits (drop known (take memo mem.old)) ≡ true) }
+    requires falls { Falls (R.Rules.book rules.old) }
+    requires honest { Honest (R.Rules.book rules.old) (kept (kept_entries (drop known (take memo mem.old)))) }
+    requires runs1 { R.Rules.runs rules.old < 4611686018427387904 }
+    ensures book1 { R.Rules.book rules.new ≡ R.Rules.book rules.old }
+    ensures row { (length mem.new ≡ length mem.old) × (memo_fits (drop known (take memo mem.new)) ≡ true) }
+    ensures before { take known mem.new ≡ take known mem.old }
+    ensures honest { Honest (R.Rules.book rules.new) (kept (kept_entries (drop known (take memo mem.new)))) }
+    ensures runs1 { R.Rules.runs rules.new ≤ R.Rules.runs rules.old + length mem.old }
+    ensures says { BringSays (R.Rules.book rules.old) (I.Inputs.given inputs.now (take known mem.old)) k.now (kept_entries (drop known (take memo mem.old))) (kept_entries (drop known (take memo mem.new))) (R.Rules.runs rules.old) (R.Rules.runs rules.new) (length (drop known (take memo mem.old))) (length (drop memo mem.old)) (drop memo mem.old) (drop memo mem.new) result }
 {
     if rules.is_input(k) {
         return inputs.get(k, mem, known, memo);

@@ -1,10 +1,9 @@
 // A key that is to be brought.
-ghost use denote.Ref.{now};
-ghost use lib.ListN.{take};
-ghost use Rattle·driver·specs.Doing.{Area, CallSays, HandSays};
+ghost use Rattle.std.specs.Prelude.{take};
+ghost use Rattle.driver.specs.Doing.{Area, CallSays, HandSays};
+
 use crate::look::look;
-use crate::state::At;
-use crate::state::Now;
+use crate::state::{At, Now};
 use engine::key::Key;
 use engine::rules::Inputs;
 use memo::entry::first;
@@ -19,8 +18,8 @@ pub fn call_kept(
     f: usize,
     k: &Key,
 ) -> Option<At>
-    requires { ⌜ Area (now mem) known memo r f ⌝ }
-    ensures { λ t. ⌜ CallSays known memo r f (now (k .entry)) (now (mem .entry)) (now (mem .exit)) t ⌝ }
+    requires { Area mem.old known memo r f }
+    ensures { CallSays known memo r f k.now mem.old mem.new result }
 {
     let Some(d) = find(&mem[known..memo], k) else {
         return Some(At {
@@ -43,8 +42,8 @@ pub fn call_input<I: Inputs>(
     inputs: &I,
     k: &Key,
 ) -> Option<At>
-    requires { ⌜ Area (now mem) known memo r f ⌝ }
-    ensures { λ t. ⌜ HandSays known memo r f (I·Inputs .given (now (inputs .entry)) (take known (now (mem .entry))) (now (k .entry))) (now (mem .entry)) (now (mem .exit)) t ⌝ }
+    requires { Area mem.old known memo r f }
+    ensures { HandSays known memo r f (I.Inputs.given inputs.now (take known mem.old) k.now) mem.old mem.new result }
 {
     let end = mem.len() - f;
     if end - (memo + r) < 1 {

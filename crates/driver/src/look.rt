@@ -1,15 +1,13 @@
 // A key's entry looked at: its next question is brought, or all of them are as they were, and its answer stands.
-ghost use denote.Ref.{now};
-ghost use Rattle·memo.specs.Says.{Looks};
-ghost use Rattle·driver·specs.Says.{memo-in};
-ghost use Rattle·driver·specs.Doing.{Area, LookSays};
+ghost use Rattle.memo.specs.Says.{Looks};
+ghost use Rattle.driver.specs.Says.{memo_in};
+ghost use Rattle.driver.specs.Doing.{Area, LookSays};
+
 use crate::stack::push_look;
-use crate::state::At;
-use crate::state::Now;
+use crate::state::{At, Now};
 use crate::within::copy_answer;
 use engine::key::Key;
-use memo::entry::asked;
-use memo::entry::got;
+use memo::entry::{asked, got};
 
 // The entry at the depth d, from its i-th question on, whose answer stands at q.
 pub fn look(
@@ -23,9 +21,9 @@ pub fn look(
     i: usize,
     q: usize,
 ) -> Option<At>
-    requires area { ⌜ Area (now mem) known memo r f ⌝ }
-    requires looks { ⌜ Looks (memo-in known memo (now mem)) d i q ⌝ }
-    ensures { λ t. ⌜ LookSays known memo r f (now (k .entry)) d i (now (mem .entry)) (now (mem .exit)) t ⌝ }
+    requires area { Area mem.old known memo r f }
+    requires looks { Looks (memo_in known memo mem.old) d i q }
+    ensures { LookSays known memo r f k.now d i mem.old mem.new result }
 {
     let end = mem.len() - f;
     if end - (memo + r) < 7 {

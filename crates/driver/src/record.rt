@@ -1,30 +1,27 @@
 // An entry written into the memo from the work area, within one row. The tables stand in the memo's specs/Log and specs/Record.
-ghost use denote.Ref.{now};
-ghost use mathlib.Core.Path.{_≡_};
-ghost use mathlib.Core.List.{List};
-ghost use Prim.Native.Nat.{ℕ, _+_, _-_, _*_, _<_, _≤_};
-ghost use lib.ListN.{length, take, drop, set};
-ghost use Rattle·engine.specs.Engine.{Got, answers};
-ghost use Rattle·engine.specs.Says.{row};
-ghost use Rattle·memo.specs.Record.{deep, puts, packed, made};
-ghost use Rattle·memo.specs.Log.{bucket, Fits};
-ghost use Rattle·memo.specs.Rows.{keys};
-ghost use Rattle·driver·specs.Rows.{stacked};
-ghost use Rattle·driver·specs.Says.{memo-in, StoredIn};
+ghost use Rattle.std.specs.Prelude.{◌≡◌, ℕ, ◌+◌, ◌-◌, ◌*◌, ◌<◌, ◌≤◌, List, length, take, drop, slice_set};
+ghost use Rattle.engine.specs.Engine.{Got, answers};
+ghost use Rattle.engine.specs.Says.{row};
+ghost use Rattle.memo.specs.Record.{deep, puts, packed, made};
+ghost use Rattle.memo.specs.Log.{bucket, Fits};
+ghost use Rattle.memo.specs.Rows.{keys};
+ghost use Rattle.driver.specs.Rows.{stacked};
+ghost use Rattle.driver.specs.Says.{memo_in, StoredIn};
+
 use engine::key::Key;
 
 // Words written over others, from a place on.
 fn put(mem: &mut [u32], i: usize, xs: &[u32])
-    requires { ⌜ i + length (now xs) ≤ length (now mem) ⌝ }
-    ensures { λ _. ⌜ now (mem .exit) ≡ puts i (now (xs .entry)) (now (mem .entry)) ⌝ }
+    requires { i + length xs.now ≤ length mem.old }
+    ensures { mem.new ≡ puts i xs.now mem.old }
 {
     mem[i..i + xs.len()].copy_from_slice(xs);
 }
 
 // The keys that stand in front of the last f words, the newest first, written in order from t on.
 fn put_keys(mem: &mut [u32], t: usize, f: usize, count: usize)
-    requires { ⌜ t + 3 * count + f ≤ length (now mem) ⌝ ∗ ⌜ 3 * count ≤ f ⌝ }
-    ensures { λ _. ⌜ ((gs : List Got) (us : List ℕ) → deep f (now (mem .entry)) ≡ stacked gs us → length gs ≡ count → now (mem .exit) ≡ puts t (keys gs) (now (mem .entry))) ⌝ }
+    requires { (t + 3 * count + f ≤ length mem.old) × (3 * count ≤ f) }
+    ensures { (gs : List Got) (us : List ℕ) → deep f mem.old ≡ stacked gs us → length gs ≡ count → mem.new ≡ puts t (keys gs) mem.old }
 {
     for i in 0..count {
         let s = mem.len() - f + 3 * (count - i - 1);
@@ -44,9 +41,9 @@ fn write(
     count: usize,
     f: usize,
 )
-    requires before { ⌜ (p + (7 + (n + (3 * count + (a - r)))) ≤ r) × (r ≤ a) ⌝ }
-    requires inside { ⌜ (a + n + f ≤ length (now mem)) × (3 * count ≤ f) × (length (now mem) < 4294967296) ⌝ }
-    ensures { λ _. ⌜ ((gs : List Got) (us : List ℕ) → deep f (now (mem .entry)) ≡ stacked gs us → length gs ≡ count → now (mem .exit) ≡ puts p (packed (now (k .entry)) prev (take n (drop a (now (mem .entry)))) count (keys gs) (take (a - r) (drop r (now (mem .entry))))) (now (mem .entry))) ⌝ }
+    requires before { (p + (7 + (n + (3 * count + (a - r)))) ≤ r) × (r ≤ a) }
+    requires inside { (a + n + f ≤ length mem.old) × (3 * count ≤ f) × (length mem.old < 4294967296) }
+    ensures { (gs : List Got) (us : List ℕ) → deep f mem.old ≡ stacked gs us → length gs ≡ count → mem.new ≡ puts p (packed k.now prev (take n (drop a mem.old)) count (keys gs) (take (a - r) (drop r mem.old))) mem.old }
 {
     put(
         mem,
@@ -68,17 +65,17 @@ fn write(
 
 // The bucket of a key.
 fn bucket_of(k: &Key, buckets: usize) -> usize
-    requires { ⌜ 1 ≤ buckets ⌝ }
-    ensures is { λ r. ⌜ r ≡ bucket (now (k .entry)) buckets ⌝ }
-    ensures below { λ r. ⌜ r < buckets ⌝ }
+    requires { 1 ≤ buckets }
+    ensures is { result ≡ bucket k.now buckets }
+    ensures below { result < buckets }
 {
     (k.kind as usize * 31 + (k.a as usize * 8191 + k.b as usize)) % buckets
 }
 
 // A bucket's head, the log's length and the number of records written.
 pub fn point(mem: &mut [u32], known: usize, b: usize, head: u32, depth: u32, count: u32)
-    requires { ⌜ known + (3 + b) < length (now mem) ⌝ }
-    ensures { λ _. ⌜ now (mem .exit) ≡ set (set (set (now (mem .entry)) (known + (3 + b)) head) (known + 0) depth) (known + 1) count ⌝ }
+    requires { known + (3 + b) < length mem.old }
+    ensures { mem.new ≡ slice_set (slice_set (slice_set mem.old (known + (3 + b)) head) (known + 0) depth) (known + 1) count }
 {
     mem[known + (3 + b)] = head;
     mem[known] = depth;
@@ -98,10 +95,10 @@ pub fn store(
     count: usize,
     f: usize,
 ) -> bool
-    requires before { ⌜ (known ≤ memo) × (memo ≤ r) × (r ≤ a) ⌝ }
-    requires inside { ⌜ (a + n + f ≤ length (now mem)) × (3 * count ≤ f) × (length (now mem) < 4294967296) ⌝ }
-    requires fits { ⌜ Fits (memo-in known memo (now mem)) ⌝ }
-    ensures { λ t. ⌜ ((gs : List Got) (us : List ℕ) → deep f (now (mem .entry)) ≡ stacked gs us → length gs ≡ count → take (a - r) (drop r (now (mem .entry))) ≡ row (answers gs) → StoredIn known memo (made (now (k .entry)) (take n (drop a (now (mem .entry)))) gs) (now (mem .entry)) (now (mem .exit)) t) ⌝ }
+    requires before { (known ≤ memo) × (memo ≤ r) × (r ≤ a) }
+    requires inside { (a + n + f ≤ length mem.old) × (3 * count ≤ f) × (length mem.old < 4294967296) }
+    requires fits { Fits (memo_in known memo mem.old) }
+    ensures { (gs : List Got) (us : List ℕ) → deep f mem.old ≡ stacked gs us → length gs ≡ count → take (a - r) (drop r mem.old) ≡ row (answers gs) → StoredIn known memo (made k.now (take n (drop a mem.old)) gs) mem.old mem.new result }
 {
     let ms = &mem[known..memo];
     let depth = ms[0] as usize;

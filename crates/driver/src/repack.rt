@@ -1,29 +1,23 @@
 // The memo repacked through the work area: the same entries in the same order, without old records. It happens between bringings only.
-ghost use denote.Ref.{now};
-ghost use mathlib.Core.Path.{_≡_};
-ghost use Prim.Native.Nat.{ℕ, _+_, _-_, _<_, _≤_};
-ghost use lib.ListN.{length, getD, take, drop};
-ghost use Rattle·std.specs.Options.{Cases as BySome};
-ghost use Rattle·memo.specs.Record.{deep, size, row-long, row-in, entry-of, entries-long, puts};
-ghost use Rattle·memo.specs.Log.{Fits, kept-entries, spare, capacity};
-ghost use Rattle·memo.specs.Says.{Gathers, Rebuilds, RepackSays, gathered};
-ghost use Rattle·driver·specs.Says.{memo-in, StoredIn};
-ghost use Rattle·driver·specs.Doing.{Area};
-ghost use Rattle·driver·specs.Bringing.{TidySays};
+ghost use Rattle.std.specs.Prelude.{◌≡◌, ℕ, ◌+◌, ◌-◌, ◌<◌, ◌≤◌, length, take, drop, MatchOption, slice_index};
+ghost use Rattle.memo.specs.Record.{deep, size, row_long, row_in, entry_of, entries_long, puts};
+ghost use Rattle.memo.specs.Log.{Fits, kept_entries, spare, capacity};
+ghost use Rattle.memo.specs.Says.{Gathers, Rebuilds, RepackSays, gathered};
+ghost use Rattle.driver.specs.Says.{memo_in, StoredIn};
+ghost use Rattle.driver.specs.Doing.{Area};
+ghost use Rattle.driver.specs.Bringing.{TidySays};
+
 use crate::record::point;
-use memo::chain::bucket_of;
-use memo::chain::newest_of;
-use memo::chain::oldest;
+use memo::chain::{bucket_of, newest_of, oldest};
 use memo::log::forget;
 use memo::mark::Mark;
-use memo::record::key_at;
-use memo::record::size_at;
+use memo::record::{key_at, size_at};
 
 // So many words from the place p of the memo copied in front of the last g words of the work area.
 fn lift(mem: &mut [u32], memo: usize, p: usize, n: usize, g: usize)
-    requires { ⌜ (p + n ≤ memo) × (memo + (g + n) ≤ length (now mem)) ⌝ }
-    ensures before { λ _. ⌜ take memo (now (mem .exit)) ≡ take memo (now (mem .entry)) ⌝ }
-    ensures is { λ _. ⌜ drop memo (now (mem .exit)) ≡ puts (length (drop memo (now (mem .entry))) - g - n) (take n (drop p (now (mem .entry)))) (drop memo (now (mem .entry))) ⌝ }
+    requires { (p + n ≤ memo) × (memo + (g + n) ≤ length mem.old) }
+    ensures before { take memo mem.new ≡ take memo mem.old }
+    ensures is { drop memo mem.new ≡ puts (length (drop memo mem.old) - g - n) (take n (drop p mem.old)) (drop memo mem.old) }
 {
     let t = mem.len() - g - n;
     mem.copy_within(p..p + n, t);
@@ -31,9 +25,9 @@ fn lift(mem: &mut [u32], memo: usize, p: usize, n: usize, g: usize)
 
 // The entries, as records one behind the other at the end of the work area, if they go in there.
 fn gather(mem: &mut [u32], known: usize, memo: usize) -> Option<Mark>
-    requires { ⌜ Area (now mem) known memo 0 0 ⌝ }
-    ensures before { λ _. ⌜ take memo (now (mem .exit)) ≡ take memo (now (mem .entry)) ⌝ }
-    ensures says { λ r. ⌜ BySome r (length (drop memo (now (mem .entry))) < entries-long (kept-entries (memo-in known memo (now (mem .entry))))) (λ m. Gathers (memo-in known memo (now (mem .entry))) (drop memo (now (mem .exit))) m) ⌝ }
+    requires { Area mem.old known memo 0 0 }
+    ensures before { take memo mem.new ≡ take memo mem.old }
+    ensures says { MatchOption result (length (drop memo mem.old) < entries_long (kept_entries (memo_in known memo mem.old))) (λ m. Gathers (memo_in known memo mem.old) (drop memo mem.new) m) }
 {
     let mut d = mem[known..memo][0] as usize;
     let mut g = 0;
@@ -60,10 +54,10 @@ fn gather(mem: &mut [u32], known: usize, memo: usize) -> Option<Mark>
 
 // The record at the depth d of the work area, stored in the memo, if it goes in there.
 fn restore(mem: &mut [u32], known: usize, memo: usize, d: usize) -> bool
-    requires area { ⌜ Area (now mem) known memo 0 0 ⌝ }
-    requires inside { ⌜ (size (deep d (drop memo (now mem))) ≤ d) × (d ≤ length (drop memo (now mem))) ⌝ }
-    requires row { ⌜ row-long (getD (deep d (drop memo (now mem))) 5 0) (row-in (deep d (drop memo (now mem)))) ≡ getD (deep d (drop memo (now mem))) 6 0 ⌝ }
-    ensures { λ r. ⌜ StoredIn known memo (entry-of (deep d (drop memo (now (mem .entry))))) (now (mem .entry)) (now (mem .exit)) r ⌝ }
+    requires area { Area mem.old known memo 0 0 }
+    requires inside { (size (deep d (drop memo mem.old)) ≤ d) × (d ≤ length (drop memo mem.old)) }
+    requires row { row_long (slice_index (deep d (drop memo mem.old)) 5) (row_in (deep d (drop memo mem.old))) ≡ slice_index (deep d (drop memo mem.old)) 6 }
+    ensures { StoredIn known memo (entry_of (deep d (drop memo mem.old))) mem.old mem.new result }
 {
     let s = size_at(&mem[memo..], d);
     let k = key_at(&mem[memo..], d);
@@ -93,12 +87,12 @@ fn restore(mem: &mut [u32], known: usize, memo: usize, d: usize) -> bool
 
 // A memo of the entries that were gathered, in place of what it was.
 fn rebuild(mem: &mut [u32], known: usize, memo: usize, m: Mark)
-    requires area { ⌜ Area (now mem) known memo 0 0 ⌝ }
-    requires says { ⌜ Rebuilds (memo-in known memo (now mem)) (drop memo (now mem)) m ⌝ }
-    ensures fits { λ _. ⌜ Fits (memo-in known memo (now (mem .exit))) ⌝ }
-    ensures before { λ _. ⌜ take known (now (mem .exit)) ≡ take known (now (mem .entry)) ⌝ }
-    ensures is { λ _. ⌜ kept-entries (memo-in known memo (now (mem .exit))) ≡ gathered (drop memo (now (mem .entry))) m ⌝ }
-    ensures room { λ _. ⌜ spare (memo-in known memo (now (mem .exit))) + entries-long (gathered (drop memo (now (mem .entry))) m) ≡ capacity (memo-in known memo (now (mem .entry))) ⌝ }
+    requires area { Area mem.old known memo 0 0 }
+    requires says { Rebuilds (memo_in known memo mem.old) (drop memo mem.old) m }
+    ensures fits { Fits (memo_in known memo mem.new) }
+    ensures before { take known mem.new ≡ take known mem.old }
+    ensures is { kept_entries (memo_in known memo mem.new) ≡ gathered (drop memo mem.old) m }
+    ensures room { spare (memo_in known memo mem.new) + entries_long (gathered (drop memo mem.old) m) ≡ capacity (memo_in known memo mem.old) }
 {
     forget(&mut mem[known..memo]);
     let mut d = m.depth;
@@ -113,10 +107,10 @@ fn rebuild(mem: &mut [u32], known: usize, memo: usize, m: Mark)
 
 // The same entries in the same order, without old records, if there is room to work in.
 fn repack(mem: &mut [u32], known: usize, memo: usize) -> bool
-    requires { ⌜ Area (now mem) known memo 0 0 ⌝ }
-    ensures fits { λ _. ⌜ Fits (memo-in known memo (now (mem .exit))) ⌝ }
-    ensures before { λ _. ⌜ take known (now (mem .exit)) ≡ take known (now (mem .entry)) ⌝ }
-    ensures says { λ r. ⌜ RepackSays (memo-in known memo (now (mem .entry))) (memo-in known memo (now (mem .exit))) (length (drop memo (now (mem .entry)))) r ⌝ }
+    requires { Area mem.old known memo 0 0 }
+    ensures fits { Fits (memo_in known memo mem.new) }
+    ensures before { take known mem.new ≡ take known mem.old }
+    ensures says { RepackSays (memo_in known memo mem.old) (memo_in known memo mem.new) (length (drop memo mem.old)) result }
 {
     let Some(m) = gather(mem, known, memo) else {
         return false;
@@ -127,10 +121,10 @@ fn repack(mem: &mut [u32], known: usize, memo: usize) -> bool
 
 // The memo made ready for a bringing: as long as half of its words are free it stays as it is, else it is repacked.
 pub fn tidy(mem: &mut [u32], known: usize, memo: usize) -> bool
-    requires { ⌜ Area (now mem) known memo 0 0 ⌝ }
-    ensures fits { λ _. ⌜ Fits (memo-in known memo (now (mem .exit))) ⌝ }
-    ensures before { λ _. ⌜ take known (now (mem .exit)) ≡ take known (now (mem .entry)) ⌝ }
-    ensures says { λ r. ⌜ TidySays (memo-in known memo (now (mem .entry))) (memo-in known memo (now (mem .exit))) (length (drop memo (now (mem .entry)))) r ⌝ }
+    requires { Area mem.old known memo 0 0 }
+    ensures fits { Fits (memo_in known memo mem.new) }
+    ensures before { take known mem.new ≡ take known mem.old }
+    ensures says { TidySays (memo_in known memo mem.old) (memo_in known memo mem.new) (length (drop memo mem.old)) result }
 {
     let ms = &mem[known..memo];
     let depth = ms[0] as usize;

@@ -1,18 +1,15 @@
 // The stack's words in the work area: frames from its end downwards, rows from its front upwards. The table stands in specs/Rows.
-ghost use denote.Ref.{now};
-ghost use mathlib.Core.Path.{_≡_};
-ghost use mathlib.Core.List.{List, _∷_, _++_};
-ghost use Prim.Native.Nat.{ℕ, _+_, _-_, _<_, _≤_};
-ghost use lib.ListN.{length, take, drop};
-ghost use Rattle·memo.specs.Record.{deep};
-ghost use Rattle·driver·specs.Rows.{look-words, work-words};
-ghost use Rattle·driver·specs.Says.{Pushed, Heads};
+ghost use Rattle.std.specs.Prelude.{◌≡◌, ℕ, ◌+◌, ◌-◌, ◌<◌, ◌≤◌, List, ◌∷◌, ◌++◌, length, take, drop};
+ghost use Rattle.memo.specs.Record.{deep};
+ghost use Rattle.driver.specs.Rows.{look_words, work_words};
+ghost use Rattle.driver.specs.Says.{Pushed, Heads};
+
 use engine::key::Key;
 
 // Words put in front of the last f.
 fn push(work: &mut [u32], f: usize, xs: &[u32])
-    requires { ⌜ f + length (now xs) ≤ length (now work) ⌝ }
-    ensures { λ _. ⌜ Pushed f (now (xs .entry)) (now (work .entry)) (now (work .exit)) ⌝ }
+    requires { f + length xs.now ≤ length work.old }
+    ensures { Pushed f xs.now work.old work.new }
 {
     let h = work.len() - f - xs.len();
     work[h..h + xs.len()].copy_from_slice(xs);
@@ -20,18 +17,18 @@ fn push(work: &mut [u32], f: usize, xs: &[u32])
 
 // A frame that looks put in front of the frames: seven words.
 pub fn push_look(work: &mut [u32], f: usize, k: &Key, d: u32, i: u32, q: u32)
-    requires { ⌜ f + 7 ≤ length (now work) ⌝ }
-    ensures adds { λ _. ⌜ deep (f + 7) (now (work .exit)) ≡ look-words (now (k .entry)) d i q (deep f (now (work .entry))) ⌝ }
-    ensures below { λ _. ⌜ ((m : ℕ) → m + (f + 7) ≤ length (now (work .entry)) → take m (now (work .exit)) ≡ take m (now (work .entry))) ⌝ }
+    requires { f + 7 ≤ length work.old }
+    ensures adds { deep (f + 7) work.new ≡ look_words k.now d i q (deep f work.old) }
+    ensures below { (m : ℕ) → m + (f + 7) ≤ length work.old → take m work.new ≡ take m work.old }
 {
     push(work, f, &[0, k.kind, k.a, k.b, d, i, q]);
 }
 
 // A frame that works put in front of the keys that it asked before: ten words, with the key that it asks now.
 pub fn push_work(work: &mut [u32], f: usize, k: &Key, n: u32, from: u32, q: &Key)
-    requires { ⌜ f + 10 ≤ length (now work) ⌝ }
-    ensures adds { λ _. ⌜ deep (f + 10) (now (work .exit)) ≡ work-words (now (k .entry)) n «from» (now (q .entry)) (deep f (now (work .entry))) ⌝ }
-    ensures below { λ _. ⌜ ((m : ℕ) → m + (f + 10) ≤ length (now (work .entry)) → take m (now (work .exit)) ≡ take m (now (work .entry))) ⌝ }
+    requires { f + 10 ≤ length work.old }
+    ensures adds { deep (f + 10) work.new ≡ work_words k.now n from q.now (deep f work.old) }
+    ensures below { (m : ℕ) → m + (f + 10) ≤ length work.old → take m work.new ≡ take m work.old }
 {
     push(
         work,
@@ -52,8 +49,8 @@ pub struct Head {
 
 // The first words of the newest frame.
 pub fn newest(work: &[u32], f: usize) -> Head
-    requires { ⌜ 7 ≤ f ⌝ ∗ ⌜ f ≤ length (now work) ⌝ }
-    ensures { λ r. ⌜ Heads (r .tag) (r .key) (r .x) (r .y) (r .z) (deep f (now (work .entry))) (deep (f - 7) (now (work .entry))) ⌝ }
+    requires { (7 ≤ f) × (f ≤ length work.now) }
+    ensures { Heads result.tag result.key result.x result.y result.z (deep f work.now) (deep (f - 7) work.now) }
 {
     let h = work.len() - f;
     let key = Key {
@@ -72,19 +69,19 @@ pub fn newest(work: &[u32], f: usize) -> Head
 
 // The answer of n words behind the newest row made its next: its length is put before it.
 pub fn add_answer(work: &mut [u32], r: usize, n: usize)
-    requires { ⌜ r + (1 + n) ≤ length (now work) ⌝ ∗ ⌜ length (now work) < 4294967296 ⌝ }
-    ensures adds { λ _. ⌜ take (r + (1 + n)) (now (work .exit)) ≡ take r (now (work .entry)) ++ (n ∷ take n (drop (r + 1) (now (work .entry)))) ⌝ }
-    ensures above { λ _. ⌜ ((f : ℕ) → r + 1 + f ≤ length (now (work .entry)) → deep f (now (work .exit)) ≡ deep f (now (work .entry))) ⌝ }
+    requires { (r + (1 + n) ≤ length work.old) × (length work.old < 4294967296) }
+    ensures adds { take (r + (1 + n)) work.new ≡ take r work.old ++ (n ∷ take n (drop (r + 1) work.old)) }
+    ensures above { (f : ℕ) → r + 1 + f ≤ length work.old → deep f work.new ≡ deep f work.old }
 {
     work[r] = n as u32;
 }
 
 // An answer of n words moved from the place p down to the place t, which is one word behind the newest row.
 pub fn settle(work: &mut [u32], p: usize, t: usize, n: usize)
-    requires { ⌜ p + n ≤ length (now work) ⌝ ∗ ⌜ t + n ≤ length (now work) ⌝ }
-    ensures is { λ _. ⌜ take n (drop t (now (work .exit))) ≡ take n (drop p (now (work .entry))) ⌝ }
-    ensures below { λ _. ⌜ take t (now (work .exit)) ≡ take t (now (work .entry)) ⌝ }
-    ensures above { λ _. ⌜ ((f : ℕ) → t + n + f ≤ length (now (work .entry)) → deep f (now (work .exit)) ≡ deep f (now (work .entry))) ⌝ }
+    requires { (p + n ≤ length work.old) × (t + n ≤ length work.old) }
+    ensures is { take n (drop t work.new) ≡ take n (drop p work.old) }
+    ensures below { take t work.new ≡ take t work.old }
+    ensures above { (f : ℕ) → t + n + f ≤ length work.old → deep f work.new ≡ deep f work.old }
 {
     work.copy_within(p..p + n, t);
 }

@@ -1,23 +1,17 @@
 // A rule that was told: it asks, or it is done.
-ghost use denote.Ref.{now};
-ghost use mathlib.Core.Path.{_≡_};
-ghost use Prim.Native.Nat.{ℕ, _+_, _-_, _*_, _<_, _≤_};
-ghost use lib.ListN.{length, take, drop};
-ghost use mathlib.Core.List.{List};
-ghost use Rattle·engine.specs.Engine.{Rules as RuleBook, Got, Kept, answers};
-ghost use Rattle·engine.specs.Machine.{Frame, tell};
-ghost use Rattle·engine.specs.Says.{row};
-ghost use Rattle·memo.specs.Record.{deep};
-ghost use Rattle·driver·specs.Says.{memo-in};
-ghost use Rattle·driver·specs.Doing.{Doing, Area, AskSays, DoneSays, RuleSays, TellSays};
+ghost use Rattle.std.specs.Prelude.{◌≡◌, ℕ, ◌+◌, ◌-◌, ◌*◌, ◌<◌, ◌≤◌, List, length, take, drop};
+ghost use Rattle.engine.specs.Engine.{Rules as RuleBook, Got, Kept, answers};
+ghost use Rattle.engine.specs.Machine.{Frame, tell};
+ghost use Rattle.engine.specs.Says.{row};
+ghost use Rattle.memo.specs.Record.{deep};
+ghost use Rattle.driver.specs.Says.{memo_in};
+ghost use Rattle.driver.specs.Doing.{Doing, Area, AskSays, DoneSays, RuleSays, TellSays};
+
 use crate::record::store;
-use crate::stack::push_work;
-use crate::stack::settle;
-use crate::state::At;
-use crate::state::Now;
+use crate::stack::{push_work, settle};
+use crate::state::{At, Now};
 use engine::key::Key;
-use engine::rules::Rules;
-use engine::rules::Turn;
+use engine::rules::{Rules, Turn};
 
 // The rule of k, which got n answers in the row from a word on, asks q.
 pub fn ask(
@@ -31,9 +25,9 @@ pub fn ask(
     from: usize,
     q: &Key,
 ) -> Option<At>
-    requires area { ⌜ Area (now mem) known memo r f ⌝ }
-    requires row { ⌜ («from» ≤ r) × (3 * n ≤ f) ⌝ }
-    ensures { λ t. ⌜ AskSays known memo r f (now (k .entry)) n «from» (now (q .entry)) (now (mem .entry)) (now (mem .exit)) t ⌝ }
+    requires area { Area mem.old known memo r f }
+    requires row { (from ≤ r) × (3 * n ≤ f) }
+    ensures { AskSays known memo r f k.now n from q.now mem.old mem.new result }
 {
     if mem.len() - f - (memo + r) < 10 {
         return None;
@@ -58,9 +52,9 @@ pub fn done(
     from: usize,
     len: usize,
 ) -> Option<At>
-    requires area { ⌜ Area (now mem) known memo r f ⌝ }
-    requires row { ⌜ («from» ≤ r) × (3 * n ≤ f) × (memo + (r + (len + f)) ≤ length (now mem)) ⌝ }
-    ensures { λ t. ⌜ DoneSays known memo r f (now (k .entry)) n «from» len (now (mem .entry)) (now (mem .exit)) t ⌝ }
+    requires area { Area mem.old known memo r f }
+    requires row { (from ≤ r) × (3 * n ≤ f) × (memo + (r + (len + f)) ≤ length mem.old) }
+    ensures { DoneSays known memo r f k.now n from len mem.old mem.new result }
 {
     if mem.len() - f - (memo + from) < 1 + len {
         return None;
@@ -87,13 +81,13 @@ pub fn go<R: Rules>(
     n: usize,
     from: usize,
 ) -> Turn
-    requires runs1 { ⌜ R·Rules .runs (now rules) < 9223372036854775808 ⌝ }
-    requires row { ⌜ («from» ≤ r) × (memo + (r + f) ≤ length (now mem)) ⌝ }
-    ensures book1 { λ _. ⌜ R·Rules .book (now (rules .exit)) ≡ R·Rules .book (now (rules .entry)) ⌝ }
-    ensures runs1 { λ _. ⌜ R·Rules .runs (now (rules .exit)) ≡ R·Rules .runs (now (rules .entry)) + 1 ⌝ }
-    ensures before { λ _. ⌜ take (memo + r) (now (mem .exit)) ≡ take (memo + r) (now (mem .entry)) ⌝ }
-    ensures behind { λ _. ⌜ deep f (now (mem .exit)) ≡ deep f (now (mem .entry)) ⌝ }
-    ensures says { λ t. ⌜ ((gs : List Got) → length gs ≡ n → take (r - «from») (drop (memo + «from») (now (mem .entry))) ≡ row (answers gs) → RuleSays (RuleBook.next (R·Rules .book (now (rules .entry))) (now (k .entry)) (answers gs)) memo r f «from» (now (mem .entry)) (now (mem .exit)) t) ⌝ }
+    requires runs1 { R.Rules.runs rules.old < 9223372036854775808 }
+    requires row { (from ≤ r) × (memo + (r + f) ≤ length mem.old) }
+    ensures book1 { R.Rules.book rules.new ≡ R.Rules.book rules.old }
+    ensures runs1 { R.Rules.runs rules.new ≡ R.Rules.runs rules.old + 1 }
+    ensures before { take (memo + r) mem.new ≡ take (memo + r) mem.old }
+    ensures behind { deep f mem.new ≡ deep f mem.old }
+    ensures says { (gs : List Got) → length gs ≡ n → take (r - from) (drop (memo + from) mem.old) ≡ row (answers gs) → RuleSays (RuleBook.next (R.Rules.book rules.old) k.now (answers gs)) memo r f from mem.old mem.new result }
 {
     let end = mem.len() - f;
     rules.go(k, &mut mem[memo + from..end], r - from, n)
@@ -111,13 +105,13 @@ pub fn tell_rule<R: Rules>(
     n: usize,
     from: usize,
 ) -> Option<At>
-    requires area { ⌜ Area (now mem) known memo r f ⌝ }
-    requires runs1 { ⌜ R·Rules .runs (now rules) < 9223372036854775808 ⌝ }
-    requires row { ⌜ («from» ≤ r) × (3 * n ≤ f) ⌝ }
-    requires told { ⌜ ((m : Kept) × (gs : List Got) × (st : List Frame) × Doing (memo-in known memo (now mem)) (drop memo (now mem)) r f (Now.Tell (now k) n «from») (tell m (now k) gs st)) ⌝ }
-    ensures book1 { λ _. ⌜ R·Rules .book (now (rules .exit)) ≡ R·Rules .book (now (rules .entry)) ⌝ }
-    ensures runs1 { λ _. ⌜ R·Rules .runs (now (rules .exit)) ≡ R·Rules .runs (now (rules .entry)) + 1 ⌝ }
-    ensures says { λ t. ⌜ TellSays (R·Rules .book (now (rules .entry))) known memo r f (now (k .entry)) n «from» (now (mem .entry)) (now (mem .exit)) t ⌝ }
+    requires area { Area mem.old known memo r f }
+    requires runs1 { R.Rules.runs rules.old < 9223372036854775808 }
+    requires row { (from ≤ r) × (3 * n ≤ f) }
+    requires told { (m : Kept) × (gs : List Got) × (st : List Frame) × Doing (memo_in known memo mem.old) (drop memo mem.old) r f (Now.Tell k.now n from) (tell m k.now gs st) }
+    ensures book1 { R.Rules.book rules.new ≡ R.Rules.book rules.old }
+    ensures runs1 { R.Rules.runs rules.new ≡ R.Rules.runs rules.old + 1 }
+    ensures says { TellSays (R.Rules.book rules.old) known memo r f k.now n from mem.old mem.new result }
 {
     match go(mem, memo, r, f, rules, k, n, from) {
         Turn::Ask(q) => ask(mem, known, memo, r, f, k, n, from, &q),

@@ -1,15 +1,12 @@
 // From the memo to the work area and back, within one row: up to known stand inputs, up to memo the memo, behind it the work area.
-ghost use denote.Ref.{now};
-ghost use mathlib.Core.Path.{_≡_};
-ghost use Prim.Native.Nat.{ℕ, _+_, _-_, _<_, _≤_};
-ghost use lib.ListN.{length, take, drop};
-ghost use Rattle·memo.specs.Record.{deep};
-ghost use Rattle·memo.specs.Log.{Fits, Record, entry-at};
-ghost use Rattle·memo.specs.Says.{Looks};
-ghost use Rattle·driver·specs.Says.{memo-in, CopySays, CompareSays};
+ghost use Rattle.std.specs.Prelude.{◌≡◌, ℕ, ◌+◌, ◌-◌, ◌<◌, ◌≤◌, length, take, drop};
+ghost use Rattle.memo.specs.Record.{deep};
+ghost use Rattle.memo.specs.Log.{Fits, Record, entry_at};
+ghost use Rattle.memo.specs.Says.{Looks};
+ghost use Rattle.driver.specs.Says.{memo_in, CopySays, CompareSays};
+
 use base::same_word;
-use memo::entry::answer;
-use memo::entry::got;
+use memo::entry::{answer, got};
 
 // The answer of the entry at a depth, copied to the place t, if it goes in before end.
 pub fn copy_answer(
@@ -20,12 +17,12 @@ pub fn copy_answer(
     t: usize,
     end: usize,
 ) -> Option<usize>
-    requires inside { ⌜ (known ≤ memo) × (memo ≤ t) × (t ≤ end) × (end ≤ length (now mem)) ⌝ }
-    requires fits { ⌜ Fits (memo-in known memo (now mem)) ⌝ }
-    requires record1 { ⌜ Record (memo-in known memo (now mem)) d ⌝ }
-    ensures says { λ r. ⌜ CopySays (entry-at (memo-in known memo (now (mem .entry))) d .ans) t end (now (mem .exit)) r ⌝ }
-    ensures below { λ _. ⌜ take t (now (mem .exit)) ≡ take t (now (mem .entry)) ⌝ }
-    ensures above { λ _. ⌜ ((f : ℕ) → end + f ≤ length (now (mem .entry)) → deep f (now (mem .exit)) ≡ deep f (now (mem .entry))) ⌝ }
+    requires inside { (known ≤ memo) × (memo ≤ t) × (t ≤ end) × (end ≤ length mem.old) }
+    requires fits { Fits (memo_in known memo mem.old) }
+    requires record1 { Record (memo_in known memo mem.old) d }
+    ensures says { CopySays (entry_at (memo_in known memo mem.old) d).ans t end mem.new result }
+    ensures below { take t mem.new ≡ take t mem.old }
+    ensures above { (f : ℕ) → end + f ≤ length mem.old → deep f mem.new ≡ deep f mem.old }
 {
     let n = answer(&mem[known..memo], d).len();
     if end - t < n {
@@ -54,10 +51,10 @@ pub fn compare(
     t: usize,
     n: usize,
 ) -> Compared
-    requires inside { ⌜ (known ≤ memo) × (memo ≤ length (now mem)) × (t + n ≤ length (now mem)) ⌝ }
-    requires fits { ⌜ Fits (memo-in known memo (now mem)) ⌝ }
-    requires looks { ⌜ Looks (memo-in known memo (now mem)) d i q ⌝ ∗ ⌜ i < length (entry-at (memo-in known memo (now mem)) d .gots) ⌝ }
-    ensures { λ r. ⌜ CompareSays (memo-in known memo (now (mem .entry))) d i (take n (drop t (now (mem .entry)))) (r .same) (r .next) ⌝ }
+    requires inside { (known ≤ memo) × (memo ≤ length mem.now) × (t + n ≤ length mem.now) }
+    requires fits { Fits (memo_in known memo mem.now) }
+    requires looks { (Looks (memo_in known memo mem.now) d i q) × (i < length (entry_at (memo_in known memo mem.now) d).gots) }
+    ensures { CompareSays (memo_in known memo mem.now) d i (take n (drop t mem.now)) result.same result.next }
 {
     let g = got(&mem[known..memo], d, i, q);
     Compared {

@@ -1,7 +1,6 @@
 // What is asked of rules: a kind of question, and two numbers that say which one of its kind.
-ghost use denote.Ref.{now};
-ghost use mathlib.Core.Path.{_≡_};
-ghost use Rattle·engine·specs.Engine.{same-key};
+ghost use Rattle.std.specs.Prelude.{◌≡◌};
+ghost use Rattle.engine.specs.Engine.{same_key};
 
 // A question.
 #[derive(Clone, Copy)]
@@ -13,7 +12,7 @@ pub struct Key {
 
 // Whether two keys are the same.
 pub fn same_key(j: &Key, k: &Key) -> bool
-    ensures { λ r. ⌜ r ≡ same-key (now (j .entry)) (now (k .entry)) ⌝ }
+    ensures { result ≡ same_key j.now k.now }
 {
     j.kind == k.kind && (j.a == k.a && j.b == k.b)
 }

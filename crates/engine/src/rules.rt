@@ -1,13 +1,10 @@
 // What the engine knows of rules and of inputs: two traits. An implementation says what it means by ghost members; the contracts hold
 // the code to that.
-ghost use denote.Ref.{now};
-ghost use Prim.Native.Nat.{ℕ, _+_, _*_, _<_, _≤_};
-ghost use mathlib.Core.Path.{_≡_};
-ghost use mathlib.Core.List.{List, []};
-ghost use lib.ListN.{length, take, drop};
-ghost use Rattle·engine·specs.declared.key.Key.{Key};
-ghost use Rattle·engine·specs.Engine.{Ans, Rules as RuleBook, Inputs as InputBook};
-ghost use Rattle·engine·specs.Says.{row, GoSays, InputSays};
+ghost use Rattle.std.specs.Prelude.{◌≡◌, ℕ, ◌+◌, ◌*◌, ◌<◌, ◌≤◌, List, [], length, take, drop};
+ghost use Rattle.engine.specs.declared.key.Key.{Key};
+ghost use Rattle.engine.specs.Engine.{Ans, Rules as RuleBook, Inputs as InputBook};
+ghost use Rattle.engine.specs.Says.{row, GoSays, InputSays};
+
 use crate::key::Key;
 
 // Where a rule stands: it asks; it's done, with so many words of answer in what was lent; or too few words were lent.
@@ -26,17 +23,17 @@ pub trait Rules {
 
     // A key's rank: what its rule asks has a smaller one.
     fn rank(&self, k: &Key) -> u32
-        ensures { λ r. ⌜ r ≡ RuleBook.rank (book (now (self .entry))) (now (k .entry)) ⌝ };
+        ensures { result ≡ RuleBook.rank (book self.now) k.now };
 
     // Whether a key's answer is handed in.
     fn is_input(&self, k: &Key) -> bool
-        ensures { λ r. ⌜ r ≡ RuleBook.input (book (now (self .entry))) (now (k .entry)) ⌝ };
+        ensures { result ≡ RuleBook.input (book self.now) k.now };
 
     // A rule is told. The answers' row, count answers, stands in the first words, up to at; what is behind it is there to work in, and
     // for the answer.
     fn go(&mut self, k: &Key, words: &mut [u32], at: usize, count: usize) -> Turn
-        requires { ⌜ runs (now self) < 9223372036854775808 ⌝ ∗ ⌜ at ≤ length (now words) ⌝ }
-        ensures { λ r. ⌜ book (now (self .exit)) ≡ book (now (self .entry)) ⌝ ∗ ⌜ runs (now (self .exit)) ≡ runs (now (self .entry)) + 1 ⌝ ∗ ⌜ length (now (words .exit)) ≡ length (now (words .entry)) ⌝ ∗ ⌜ take «at» (now (words .exit)) ≡ take «at» (now (words .entry)) ⌝ ∗ ⌜ ((as₁ : List Ans) → length as₁ ≡ count → row as₁ ≡ take «at» (now (words .entry)) → GoSays (RuleBook.next (book (now (self .entry))) (now (k .entry)) as₁) «at» (drop «at» (now (words .entry))) (drop «at» (now (words .exit))) r) ⌝ };
+        requires { (runs self.old < 9223372036854775808) × (at ≤ length words.old) }
+        ensures { (book self.new ≡ book self.old) × ((runs self.new ≡ runs self.old + 1) × ((length words.new ≡ length words.old) × ((take «at» words.new ≡ take «at» words.old) × (((as₁ : List Ans) → length as₁ ≡ count → row as₁ ≡ take «at» words.old → GoSays (RuleBook.next (book self.old) k.now as₁) «at» (drop «at» words.old) (drop «at» words.new) result))))) };
 }
 
 // What is handed in, read from words that stand before known; an answer is written behind at.
@@ -45,6 +42,6 @@ pub trait Inputs {
 
     // An input's answer: how many words of it stand behind at, or none if there are too few.
     fn get(&self, k: &Key, words: &mut [u32], known: usize, at: usize) -> Option<usize>
-        requires { ⌜ known ≤ «at» ⌝ ∗ ⌜ «at» ≤ length (now words) ⌝ }
-        ensures { λ r. ⌜ length (now (words .exit)) ≡ length (now (words .entry)) ⌝ ∗ ⌜ take «at» (now (words .exit)) ≡ take «at» (now (words .entry)) ⌝ ∗ ⌜ InputSays (given (now (self .entry)) (take known (now (words .entry))) (now (k .entry))) (drop «at» (now (words .entry))) (drop «at» (now (words .exit))) r ⌝ };
+        requires { (known ≤ «at») × («at» ≤ length words.old) }
+        ensures { (length words.new ≡ length words.old) × ((take «at» words.new ≡ take «at» words.old) × (InputSays (given self.now (take known words.old) k.now) (drop «at» words.old) (drop «at» words.new) result)) };
 }

@@ -1,31 +1,28 @@
 -- Faults gathered from lines: four words each, from a place q on: where its line begins, from, behind, its number.
-use mathlib.Core.Path.{_≡_}
-use mathlib.Core.List.{List, [], _∷_, _++_}
-use Prim.Native.Nat.{ℕ, zero, suc, _+_, _*_, _≤_}
-use lib.ListN.{getD, set, take}
-use Rattle·semantics.specs.Answers.{fault-words}
-use Rattle·findings·specs.Said.{faults-read}
+use Rattle.std.specs.Prelude.{◌≡◌, ℕ, zero, suc, ◌+◌, ◌*◌, ◌≤◌, List, [], ◌∷◌, ◌++◌, take, slice_index, slice_set}
+use Rattle.semantics.specs.Answers.{fault_words}
+use Rattle.findings.specs.Said.{faults_read}
 
 -- the three numbers of the fault in four words: its place counted from the file's beginning
 abbrev pub three : ℕ → ℕ → ℕ → ℕ → List ℕ
 three s a b x = (s + a) ∷ (s + b) ∷ x ∷ []
 
-abbrev pub three-at : List ℕ → ℕ → List ℕ
-three-at vs i = three (getD vs i 0) (getD vs (i + 1) 0) (getD vs (i + 2) 0) (getD vs (i + 3) 0)
+abbrev pub three_at : List ℕ → ℕ → List ℕ
+three_at vs i = three (slice_index vs i) (slice_index vs (i + 1)) (slice_index vs (i + 2)) (slice_index vs (i + 3))
 
 -- the numbers of n of them
 abbrev pub gathered : List ℕ → ℕ → ℕ → List ℕ
 gathered vs q zero = []
-gathered vs q (suc n) = gathered vs q n ++ three-at vs (q + 4 * n)
+gathered vs q (suc n) = gathered vs q n ++ three_at vs (q + 4 * n)
 
 -- four words written
 abbrev pub four : List ℕ → ℕ → ℕ → ℕ → ℕ → ℕ → List ℕ
-four ws i s a b x = set (set (set (set ws i s) (i + 1) a) (i + 2) b) (i + 3) x
+four ws i s a b x = slice_set (slice_set (slice_set (slice_set ws i s) (i + 1) a) (i + 2) b) (i + 3) x
 
 -- faults of a line that begins at s, put behind n that were gathered: after i of the things said (by any number j that is i) there
 -- are m. ws is the row before, vs now
 pub record Gathering (ws : List ℕ) (at1 s q n : ℕ) (vs : List ℕ) (m i : ℕ) : Type 0 where
   pub front : take q vs ≡ take q ws
-  pub behind : (j : ℕ) → at1 ≤ j → getD vs j 0 ≡ getD ws j 0
-  pub adds : (j : ℕ) → j ≡ i → gathered vs q m ≡ gathered ws q n ++ fault-words s (faults-read ws at1 j)
+  pub behind : (j : ℕ) → at1 ≤ j → slice_index vs j ≡ slice_index ws j
+  pub adds : (j : ℕ) → j ≡ i → gathered vs q m ≡ gathered ws q n ++ fault_words s (faults_read ws at1 j)
   pub few : m ≤ n + i

@@ -1,12 +1,9 @@
 // The faults of lines, gathered in the order of the lines for an answer.
-ghost use denote.Ref.{now};
-ghost use mathlib.Core.Path.{_≡_};
-ghost use mathlib.Core.List.{_++_};
-ghost use Prim.Native.Nat.{_+_, _*_, _≤_};
-ghost use lib.ListN.{length, take};
-ghost use Rattle·semantics.specs.Answers.{«fault-words»};
-ghost use Rattle·findings·specs.Said.{«fault-in», «faults-read», FaultSays};
-ghost use Rattle·findings·specs.Gathered.{gathered, four};
+ghost use Rattle.std.specs.Prelude.{◌≡◌, ◌+◌, ◌*◌, ◌≤◌, ◌++◌, length, take};
+ghost use Rattle.semantics.specs.Answers.{«fault-words»};
+ghost use Rattle.findings.specs.Said.{fault_in, faults_read, FaultSays};
+ghost use Rattle.findings.specs.Gathered.{gathered, four};
+
 use crate::tags::FAULT;
 use diagnostics::Findings;
 
@@ -20,8 +17,8 @@ pub struct FaultAt {
 
 // The thing said in the four words from a place on, if it is a fault.
 pub fn fault_at(words: &[u32], i: usize) -> Option<FaultAt>
-    requires { ⌜ i + 4 ≤ length (now words) ⌝ }
-    ensures { λ r. ⌜ FaultSays («fault-in» (now (words .entry)) i) r ⌝ }
+    requires { i + 4 ≤ length words.now }
+    ensures { FaultSays (fault_in words.now i) result }
 {
     if words[i] == FAULT {
         Some(FaultAt {
@@ -36,8 +33,8 @@ pub fn fault_at(words: &[u32], i: usize) -> Option<FaultAt>
 
 // A fault of a line that begins at a place of its file, in the four words from i on.
 fn put_fault(words: &mut [u32], i: usize, start: u32, x: FaultAt)
-    requires { ⌜ i + 4 ≤ length (now words) ⌝ }
-    ensures { λ _. ⌜ now (words .exit) ≡ four (now (words .entry)) i start (x .from) (x .to) (x .sort) ⌝ }
+    requires { i + 4 ≤ length words.old }
+    ensures { words.new ≡ four words.old i start x.from x.to x.sort }
 {
     words[i] = start;
     words[i + 1] = x.from;
@@ -48,11 +45,11 @@ fn put_fault(words: &mut [u32], i: usize, start: u32, x: FaultAt)
 // The faults among what was said of a line that begins at a place of its file, put behind the n that are gathered from q on; how many
 // there are then. What stands before q stays as it was.
 pub fn gather(words: &mut [u32], f: Findings, start: u32, q: usize, n: usize) -> usize
-    requires apart { ⌜ q + 4 * (n + f .count) ≤ f .«at» ⌝ }
-    requires within { ⌜ f .«at» + 4 * f .count ≤ length (now words) ⌝ }
-    ensures front { λ _. ⌜ take q (now (words .exit)) ≡ take q (now (words .entry)) ⌝ }
-    ensures adds { λ r. ⌜ gathered (now (words .exit)) q r ≡ gathered (now (words .entry)) q n ++ «fault-words» start («faults-read» (now (words .entry)) (f .«at») (f .count)) ⌝ }
-    ensures few { λ r. ⌜ r ≤ n + f .count ⌝ }
+    requires apart { q + 4 * (n + f.count) ≤ f.«at» }
+    requires within { f.«at» + 4 * f.count ≤ length words.old }
+    ensures front { take q words.new ≡ take q words.old }
+    ensures adds { gathered words.new q result ≡ gathered words.old q n ++ «fault-words» start (faults_read words.old f.«at» f.count) }
+    ensures few { result ≤ n + f.count }
 {
     let mut m = n;
     for i in 0..f.count {

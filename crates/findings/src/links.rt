@@ -1,12 +1,8 @@
 // Where the names of a line lead.
-ghost use denote.Ref.{now};
-ghost use Prim.Native.Nat.{_+_, _*_, _≤_};
-ghost use lib.ListN.{length};
-ghost use Rattle·findings·specs.Linking.{LinkSays, IsLinkAt};
-use crate::tags::FAULT;
-use crate::tags::TO_BOUND;
-use crate::tags::TO_DECLARED;
-use crate::tags::TYPE;
+ghost use Rattle.std.specs.Prelude.{◌+◌, ◌*◌, ◌≤◌, length};
+ghost use Rattle.findings.specs.Linking.{LinkSays, IsLinkAt};
+
+use crate::tags::{FAULT, TO_BOUND, TO_DECLARED, TYPE};
 use crate::types::is_around;
 use diagnostics::Findings;
 
@@ -28,8 +24,8 @@ pub struct Linked {
 
 // The thing said in the four words from a place on, if it is a link.
 fn linked_at(words: &[u32], i: usize) -> Option<Linked>
-    requires { ⌜ i + 4 ≤ length (now words) ⌝ }
-    ensures { λ r. ⌜ LinkSays (now (words .entry)) i r ⌝ }
+    requires { i + 4 ≤ length words.now }
+    ensures { LinkSays words.now i result }
 {
     let target = match words[i] {
         FAULT | TYPE => return None,
@@ -46,8 +42,8 @@ fn linked_at(words: &[u32], i: usize) -> Option<Linked>
 
 // The first link that was said of a name around a place.
 pub fn link_at(words: &[u32], f: Findings, place: usize) -> Option<Linked>
-    requires { ⌜ f .«at» + 4 * f .count ≤ length (now words) ⌝ }
-    ensures { λ r. ⌜ IsLinkAt (now (words .entry)) (f .«at») (f .count) place r ⌝ }
+    requires { f.«at» + 4 * f.count ≤ length words.now }
+    ensures { IsLinkAt words.now f.«at» f.count place result }
 {
     for i in 0..f.count {
         let Some(x) = linked_at(words, f.at + 4 * i) else {

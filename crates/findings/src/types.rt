@@ -1,10 +1,8 @@
 // The types noted of a line's expressions: the smallest expression around a place.
-ghost use denote.Ref.{now};
-ghost use mathlib.Core.Path.{_≡_};
-ghost use Prim.Native.Nat.{_+_, _-_, _*_, _≤_};
-ghost use lib.ListN.{length};
-ghost use Rattle·semantics.specs.Answers.{around};
-ghost use Rattle·findings·specs.Smallest.{HasType, NotedSays, less, IsSmallest};
+ghost use Rattle.std.specs.Prelude.{◌≡◌, ◌+◌, ◌-◌, ◌*◌, ◌≤◌, length};
+ghost use Rattle.semantics.specs.Answers.{around};
+ghost use Rattle.findings.specs.Smallest.{HasType, NotedSays, less, IsSmallest};
+
 use crate::tags::TYPE;
 use diagnostics::Findings;
 
@@ -22,14 +20,14 @@ pub struct Noted {
 impl Noted {
     // How many bytes long.
     fn size(self) -> u32
-        ensures { λ r. ⌜ r ≡ self .to - self .from ⌝ }
+        ensures { result ≡ self.to - self.from }
     {
         self.to.saturating_sub(self.from)
     }
 
     // The smaller of this one and an older one, which stays where they are equally small.
     fn smaller(self, best: Option<Noted>) -> Noted
-        ensures { λ r. ⌜ r ≡ less self best ⌝ }
+        ensures { result ≡ less self best }
     {
         match best {
             Some(b) if self.size() >= b.size() => b,
@@ -40,15 +38,15 @@ impl Noted {
 
 // Whether a place lies between two.
 pub fn is_around(place: usize, from: u32, to: u32) -> bool
-    ensures { λ r. ⌜ r ≡ around place from to ⌝ }
+    ensures { result ≡ around place from to }
 {
     from as usize <= place && place < to as usize
 }
 
 // The type noted in the four words from a place on, if they note one.
 fn noted_at(words: &[u32], i: usize) -> Option<Noted>
-    requires { ⌜ i + 4 ≤ length (now words) ⌝ }
-    ensures { λ r. ⌜ NotedSays (now (words .entry)) i r ⌝ }
+    requires { i + 4 ≤ length words.now }
+    ensures { NotedSays words.now i result }
 {
     if words[i] != TYPE || words[i + 3] == UNTYPED {
         return None;
@@ -62,9 +60,9 @@ fn noted_at(words: &[u32], i: usize) -> Option<Noted>
 
 // Of the expressions around a place whose type was noted the smallest, the first of those.
 pub fn smallest(words: &[u32], f: Findings, place: usize) -> Option<Noted>
-    requires { ⌜ f .«at» + 4 * f .count ≤ length (now words) ⌝ }
-    ensures typed { λ r. ⌜ HasType r ⌝ }
-    ensures finds { λ r. ⌜ IsSmallest (now (words .entry)) (f .«at») (f .count) place r ⌝ }
+    requires { f.«at» + 4 * f.count ≤ length words.now }
+    ensures typed { HasType result }
+    ensures finds { IsSmallest words.now f.«at» f.count place result }
 {
     let mut best = None;
     for i in 0..f.count {

@@ -1,299 +1,299 @@
 -- The machine that holds no trees comes to the code of what the definition reads, or stops where it does.
-use mathlib.Core.Path.{_≡_, refl, sym, ap, subst, _∙_}
+use mathlib.Core.Path.{◌≡◌, refl, sym, ap, subst, ◌∙◌}
 use mathlib.Core.Bool.{Bool, true, false, false≢true}
-use mathlib.Core.List.{List, [], _∷_, _++_, append-assoc}
+use mathlib.Core.List.{List, [], ◌∷◌, ◌++◌, append_assoc}
 use mathlib.Core.Option.{Option, some, none}
-use Prim.Native.Nat.{ℕ, zero, suc, _+_, _*_, _≤_, _<_}
+use Prim.Native.Nat.{ℕ, zero, suc, ◌+◌, ◌*◌, ◌≤◌, ◌<◌}
 use native.Mathlib.Omega.{arith}
 use lib.ListN.{length}
 use lib.Dec.{eqb, leb}
 use borrow.Author.Tests.{eqb-true}
-use Rattle·base.specs.Base.{pick, opt, Word, same}
-use Rattle·lexer.specs.Tokens.{Tok, next, tail1}
-use Rattle·lexer.specs.Words.{is-name, is-number, digits, k-let, k-in, k-if, k-then, k-else, t-lp, t-rp, t-comma, t-gets, t-dot, op-any}
-use Rattle·grammar·specs.Grammar.{E, Es, no, and-then, e-num, e-name, e-call, e-field, e-op, e-if, e-let, e-par, Got, it, bad, expr}
-use Rattle·grammar·specs.Code.{Op, o-num, o-name, o-call, o-arg, o-end, o-field, o-op, o-cond, o-if, o-bind, o-let, o-par, count, onto, ontos, code}
-use Rattle·grammar·specs.Machine.{lev, made, Frame, f-par, f-call, f-bound, f-body, f-cond, f-then, f-else, f-right, p-begin, p-atom, p-value, State, going, won, lost, base, patch, eats, names-it, do-begin, do-call, do-atom, pop, do-dot, do-op, do-value, step, run, start, as-code, effort, outcome}
-use Rattle·grammar·proofs.Fuel.{tail-most}
-use Rattle·grammar·proofs.Free.{lev-in}
-use Rattle·grammar·proofs.Tree.{Tree-Frame, in-par, in-call, in-bound, in-body, in-cond, in-then, in-else, right-of, at-begin, at-atom, at-value, Tree-State, tree-going, tree-won, tree-lost, tree-base, put-all, tree-eats, tree-word, tree-begin, tree-call, tree-atom, tree-pop, tree-value, tree-step}
-use Rattle·grammar·proofs.Runs.{tree-run, tree-start, as-tree, machine-is, tail-less, made-most, any-none}
+use Rattle.base.specs.Base.{pick, opt, Word, same}
+use Rattle.lexer.specs.Tokens.{Tok, next, tail1}
+use Rattle.lexer.specs.Words.{is_name, is_number, digits, k_let, k_in, k_if, k_then, k_else, t_lp, t_rp, t_comma, t_gets, t_dot, op_any}
+use Rattle.grammar.specs.Grammar.{E, Es, no, and_then, e_num, e_name, e_call, e_field, e_op, e_if, e_let, e_par, Got, it, bad, expr}
+use Rattle.grammar.specs.Code.{Op, o_num, o_name, o_call, o_arg, o_end, o_field, o_op, o_cond, o_if, o_bind, o_let, o_par, count, onto, ontos, code}
+use Rattle.grammar.specs.Machine.{lev, made, Frame, f_par, f_call, f_bound, f_body, f_cond, f_then, f_else, f_right, p_begin, p_atom, p_value, State, going, won, lost, base, patch, eats, names_it, do_begin, do_call, do_atom, pop, do_dot, do_op, do_value, step, run, start, as_code, effort, outcome}
+use Rattle.grammar.proofs.Fuel.{tail_most}
+use Rattle.grammar.proofs.Free.{lev_in}
+use Rattle.grammar.proofs.Tree.{TreeFrame, in_par, in_call, in_bound, in_body, in_cond, in_then, in_else, right_of, at_begin, at_atom, at_value, TreeState, tree_going, tree_won, tree_lost, tree_base, put_all, tree_eats, tree_word, tree_begin, tree_call, tree_atom, tree_pop, tree_value, tree_step}
+use Rattle.grammar.proofs.Runs.{tree_run, tree_start, as_tree, machine_is, tail_less, made_most, any_none}
 
 one : (b : E) (x : Op) (os : List Op) → onto b (x ∷ os) ≡ code b ++ (x ∷ os) → onto b (x ∷ []) ≡ code b ++ (x ∷ []) → onto b (x ∷ os) ≡ onto b (x ∷ []) ++ os
-one b x os p q = p ∙ sym (append-assoc (code b) (x ∷ []) os) ∙ ap (λ l. l ++ os) (sym q)
+one b x os p q = p ∙ sym (append_assoc (code b) (x ∷ []) os) ∙ ap (λ l. l ++ os) (sym q)
 
 two : (a : E) (xs ys os : List Op) → onto a xs ≡ code a ++ xs → onto a ys ≡ code a ++ ys → xs ≡ ys ++ os → onto a xs ≡ onto a ys ++ os
-two a xs ys os p q e = p ∙ ap (λ l. code a ++ l) e ∙ sym (append-assoc (code a) ys os) ∙ ap (λ l. l ++ os) (sym q)
+two a xs ys os p q e = p ∙ ap (λ l. code a ++ l) e ∙ sym (append_assoc (code a) ys os) ∙ ap (λ l. l ++ os) (sym q)
 
 -- an expression's code in front of what follows is its code and then that
 mutual
-  pub onto-is : (e : E) (os : List Op) → onto e os ≡ code e ++ os
-  onto-is (e-num t) os = refl
-  onto-is (e-name t) os = refl
-  onto-is (e-call f es n) os = ap (λ l. o-call f (count es) ∷ l) (ontos-is es (o-end n ∷ os) ∙ sym (append-assoc (ontos es []) (o-end n ∷ []) os) ∙ ap (λ l. l ++ os) (sym (ontos-is es (o-end n ∷ []))))
-  onto-is (e-field e x) os = onto-is e (o-field x ∷ os) ∙ sym (append-assoc (code e) (o-field x ∷ []) os) ∙ ap (λ l. l ++ os) (sym (onto-is e (o-field x ∷ [])))
-  onto-is (e-op o a b) os = two a (onto b (o-op o ∷ os)) (onto b (o-op o ∷ [])) os (onto-is a (onto b (o-op o ∷ os))) (onto-is a (onto b (o-op o ∷ []))) (one b (o-op o) os (onto-is b (o-op o ∷ os)) (onto-is b (o-op o ∷ [])))
-  onto-is (e-if n a b c) os =
-      let z = one c (o-if n) os (onto-is c (o-if n ∷ os)) (onto-is c (o-if n ∷ [])) in
-      let y = two b (onto c (o-if n ∷ os)) (onto c (o-if n ∷ [])) os (onto-is b (onto c (o-if n ∷ os))) (onto-is b (onto c (o-if n ∷ []))) z in
-      two a (o-cond ∷ onto b (onto c (o-if n ∷ os))) (o-cond ∷ onto b (onto c (o-if n ∷ []))) os (onto-is a (o-cond ∷ onto b (onto c (o-if n ∷ os)))) (onto-is a (o-cond ∷ onto b (onto c (o-if n ∷ [])))) (ap (λ l. o-cond ∷ l) y)
-  onto-is (e-let n x a b) os =
-      let y = one b (o-let n) os (onto-is b (o-let n ∷ os)) (onto-is b (o-let n ∷ [])) in
-      two a (o-bind x ∷ onto b (o-let n ∷ os)) (o-bind x ∷ onto b (o-let n ∷ [])) os (onto-is a (o-bind x ∷ onto b (o-let n ∷ os))) (onto-is a (o-bind x ∷ onto b (o-let n ∷ []))) (ap (λ l. o-bind x ∷ l) y)
-  onto-is (e-par n e m) os = one e (o-par n m) os (onto-is e (o-par n m ∷ os)) (onto-is e (o-par n m ∷ []))
+  pub onto_is : (e : E) (os : List Op) → onto e os ≡ code e ++ os
+  onto_is (e_num t) os = refl
+  onto_is (e_name t) os = refl
+  onto_is (e_call f es n) os = ap (λ l. o_call f (count es) ∷ l) (ontos_is es (o_end n ∷ os) ∙ sym (append_assoc (ontos es []) (o_end n ∷ []) os) ∙ ap (λ l. l ++ os) (sym (ontos_is es (o_end n ∷ []))))
+  onto_is (e_field e x) os = onto_is e (o_field x ∷ os) ∙ sym (append_assoc (code e) (o_field x ∷ []) os) ∙ ap (λ l. l ++ os) (sym (onto_is e (o_field x ∷ [])))
+  onto_is (e_op o a b) os = two a (onto b (o_op o ∷ os)) (onto b (o_op o ∷ [])) os (onto_is a (onto b (o_op o ∷ os))) (onto_is a (onto b (o_op o ∷ []))) (one b (o_op o) os (onto_is b (o_op o ∷ os)) (onto_is b (o_op o ∷ [])))
+  onto_is (e_if n a b c) os =
+      let z = one c (o_if n) os (onto_is c (o_if n ∷ os)) (onto_is c (o_if n ∷ [])) in
+      let y = two b (onto c (o_if n ∷ os)) (onto c (o_if n ∷ [])) os (onto_is b (onto c (o_if n ∷ os))) (onto_is b (onto c (o_if n ∷ []))) z in
+      two a (o_cond ∷ onto b (onto c (o_if n ∷ os))) (o_cond ∷ onto b (onto c (o_if n ∷ []))) os (onto_is a (o_cond ∷ onto b (onto c (o_if n ∷ os)))) (onto_is a (o_cond ∷ onto b (onto c (o_if n ∷ [])))) (ap (λ l. o_cond ∷ l) y)
+  onto_is (e_let n x a b) os =
+      let y = one b (o_let n) os (onto_is b (o_let n ∷ os)) (onto_is b (o_let n ∷ [])) in
+      two a (o_bind x ∷ onto b (o_let n ∷ os)) (o_bind x ∷ onto b (o_let n ∷ [])) os (onto_is a (o_bind x ∷ onto b (o_let n ∷ os))) (onto_is a (o_bind x ∷ onto b (o_let n ∷ []))) (ap (λ l. o_bind x ∷ l) y)
+  onto_is (e_par n e m) os = one e (o_par n m) os (onto_is e (o_par n m ∷ os)) (onto_is e (o_par n m ∷ []))
 
-  pub ontos-is : (es : Es) (os : List Op) → ontos es os ≡ ontos es [] ++ os
-  ontos-is no os = refl
-  ontos-is (and-then e es) os = two e (o-arg ∷ ontos es os) (o-arg ∷ ontos es []) os (onto-is e (o-arg ∷ ontos es os)) (onto-is e (o-arg ∷ ontos es [])) (ap (λ l. o-arg ∷ l) (ontos-is es os))
+  pub ontos_is : (es : Es) (os : List Op) → ontos es os ≡ ontos es [] ++ os
+  ontos_is no os = refl
+  ontos_is (and_then e es) os = two e (o_arg ∷ ontos es os) (o_arg ∷ ontos es []) os (onto_is e (o_arg ∷ ontos es os)) (onto_is e (o_arg ∷ ontos es [])) (ap (λ l. o_arg ∷ l) (ontos_is es os))
 
 -- the code of each form, by its parts
-pub code-call : (f : Tok) (es : Es) (n : ℕ) → code (e-call f es n) ≡ o-call f (count es) ∷ (ontos es [] ++ (o-end n ∷ []))
-code-call f es n = ap (λ l. o-call f (count es) ∷ l) (ontos-is es (o-end n ∷ []))
+pub code_call : (f : Tok) (es : Es) (n : ℕ) → code (e_call f es n) ≡ o_call f (count es) ∷ (ontos es [] ++ (o_end n ∷ []))
+code_call f es n = ap (λ l. o_call f (count es) ∷ l) (ontos_is es (o_end n ∷ []))
 
-pub code-field : (e : E) (x : Tok) → code (e-field e x) ≡ code e ++ (o-field x ∷ [])
-code-field e x = onto-is e (o-field x ∷ [])
+pub code_field : (e : E) (x : Tok) → code (e_field e x) ≡ code e ++ (o_field x ∷ [])
+code_field e x = onto_is e (o_field x ∷ [])
 
-pub code-op : (o : ℕ) (a b : E) → code (e-op o a b) ≡ code a ++ (code b ++ (o-op o ∷ []))
-code-op o a b = onto-is a (onto b (o-op o ∷ [])) ∙ ap (λ l. code a ++ l) (onto-is b (o-op o ∷ []))
+pub code_op : (o : ℕ) (a b : E) → code (e_op o a b) ≡ code a ++ (code b ++ (o_op o ∷ []))
+code_op o a b = onto_is a (onto b (o_op o ∷ [])) ∙ ap (λ l. code a ++ l) (onto_is b (o_op o ∷ []))
 
-pub code-if : (n : ℕ) (a b c : E) → code (e-if n a b c) ≡ code a ++ (o-cond ∷ (code b ++ (code c ++ (o-if n ∷ []))))
-code-if n a b c = onto-is a (o-cond ∷ onto b (onto c (o-if n ∷ []))) ∙ ap (λ l. code a ++ (o-cond ∷ l)) (onto-is b (onto c (o-if n ∷ [])) ∙ ap (λ l. code b ++ l) (onto-is c (o-if n ∷ [])))
+pub code_if : (n : ℕ) (a b c : E) → code (e_if n a b c) ≡ code a ++ (o_cond ∷ (code b ++ (code c ++ (o_if n ∷ []))))
+code_if n a b c = onto_is a (o_cond ∷ onto b (onto c (o_if n ∷ []))) ∙ ap (λ l. code a ++ (o_cond ∷ l)) (onto_is b (onto c (o_if n ∷ [])) ∙ ap (λ l. code b ++ l) (onto_is c (o_if n ∷ [])))
 
-pub code-let : (n : ℕ) (x : Tok) (a b : E) → code (e-let n x a b) ≡ code a ++ (o-bind x ∷ (code b ++ (o-let n ∷ [])))
-code-let n x a b = onto-is a (o-bind x ∷ onto b (o-let n ∷ [])) ∙ ap (λ l. code a ++ (o-bind x ∷ l)) (onto-is b (o-let n ∷ []))
+pub code_let : (n : ℕ) (x : Tok) (a b : E) → code (e_let n x a b) ≡ code a ++ (o_bind x ∷ (code b ++ (o_let n ∷ [])))
+code_let n x a b = onto_is a (o_bind x ∷ onto b (o_let n ∷ [])) ∙ ap (λ l. code a ++ (o_bind x ∷ l)) (onto_is b (o_let n ∷ []))
 
-pub code-par : (n : ℕ) (e : E) (m : ℕ) → code (e-par n e m) ≡ code e ++ (o-par n m ∷ [])
-code-par n e m = onto-is e (o-par n m ∷ [])
+pub code_par : (n : ℕ) (e : E) (m : ℕ) → code (e_par n e m) ≡ code e ++ (o_par n m ∷ [])
+code_par n e m = onto_is e (o_par n m ∷ [])
 
 -- what the machine with trees has put out
-abbrev args-out : List E → List Op
-args-out [] = []
-args-out (a ∷ es) = args-out es ++ (code a ++ (o-arg ∷ []))
+abbrev args_out : List E → List Op
+args_out [] = []
+args_out (a ∷ es) = args_out es ++ (code a ++ (o_arg ∷ []))
 
-abbrev outs : List Tree-Frame → List Op
+abbrev outs : List TreeFrame → List Op
 outs [] = []
-outs (in-par n ∷ fs) = outs fs
-outs (in-call f es ∷ fs) = outs fs ++ (o-call f 0 ∷ args-out es)
-outs (in-bound n x ∷ fs) = outs fs
-outs (in-body n x a ∷ fs) = outs fs ++ (code a ++ (o-bind x ∷ []))
-outs (in-cond n ∷ fs) = outs fs
-outs (in-then n a ∷ fs) = outs fs ++ (code a ++ (o-cond ∷ []))
-outs (in-else n a b ∷ fs) = outs fs ++ (code a ++ (o-cond ∷ code b))
-outs (right-of o a ∷ fs) = outs fs ++ code a
+outs (in_par n ∷ fs) = outs fs
+outs (in_call f es ∷ fs) = outs fs ++ (o_call f 0 ∷ args_out es)
+outs (in_bound n x ∷ fs) = outs fs
+outs (in_body n x a ∷ fs) = outs fs ++ (code a ++ (o_bind x ∷ []))
+outs (in_cond n ∷ fs) = outs fs
+outs (in_then n a ∷ fs) = outs fs ++ (code a ++ (o_cond ∷ []))
+outs (in_else n a b ∷ fs) = outs fs ++ (code a ++ (o_cond ∷ code b))
+outs (right_of o a ∷ fs) = outs fs ++ code a
 
-abbrev flats : List Tree-Frame → List Frame
+abbrev flats : List TreeFrame → List Frame
 flats [] = []
-flats (in-par n ∷ fs) = f-par n ∷ flats fs
-flats (in-call f es ∷ fs) = f-call (length (outs fs)) (length es) ∷ flats fs
-flats (in-bound n x ∷ fs) = f-bound n x ∷ flats fs
-flats (in-body n x a ∷ fs) = f-body n ∷ flats fs
-flats (in-cond n ∷ fs) = f-cond n ∷ flats fs
-flats (in-then n a ∷ fs) = f-then n ∷ flats fs
-flats (in-else n a b ∷ fs) = f-else n ∷ flats fs
-flats (right-of o a ∷ fs) = f-right o ∷ flats fs
+flats (in_par n ∷ fs) = f_par n ∷ flats fs
+flats (in_call f es ∷ fs) = f_call (length (outs fs)) (length es) ∷ flats fs
+flats (in_bound n x ∷ fs) = f_bound n x ∷ flats fs
+flats (in_body n x a ∷ fs) = f_body n ∷ flats fs
+flats (in_cond n ∷ fs) = f_cond n ∷ flats fs
+flats (in_then n a ∷ fs) = f_then n ∷ flats fs
+flats (in_else n a b ∷ fs) = f_else n ∷ flats fs
+flats (right_of o a ∷ fs) = f_right o ∷ flats fs
 
-abbrev pub flat : Tree-State → State
-flat (tree-going at-begin ts fs) = going p-begin ts (flats fs) (outs fs)
-flat (tree-going at-atom ts fs) = going p-atom ts (flats fs) (outs fs)
-flat (tree-going (at-value l a) ts fs) = going (p-value l) ts (flats fs) (outs fs ++ code a)
-flat (tree-won a ts) = won (code a) ts
-flat (tree-lost ts) = lost ts
+abbrev pub flat : TreeState → State
+flat (tree_going at_begin ts fs) = going p_begin ts (flats fs) (outs fs)
+flat (tree_going at_atom ts fs) = going p_atom ts (flats fs) (outs fs)
+flat (tree_going (at_value l a) ts fs) = going (p_value l) ts (flats fs) (outs fs ++ code a)
+flat (tree_won a ts) = won (code a) ts
+flat (tree_lost ts) = lost ts
 
-flat-base : (fs : List Tree-Frame) → base (flats fs) ≡ tree-base fs
-flat-base [] = refl
-flat-base (in-par n ∷ fs) = refl
-flat-base (in-call f es ∷ fs) = refl
-flat-base (in-bound n x ∷ fs) = refl
-flat-base (in-body n x a ∷ fs) = refl
-flat-base (in-cond n ∷ fs) = refl
-flat-base (in-then n a ∷ fs) = refl
-flat-base (in-else n a b ∷ fs) = refl
-flat-base (right-of o a ∷ fs) = refl
+flat_base : (fs : List TreeFrame) → base (flats fs) ≡ tree_base fs
+flat_base [] = refl
+flat_base (in_par n ∷ fs) = refl
+flat_base (in_call f es ∷ fs) = refl
+flat_base (in_bound n x ∷ fs) = refl
+flat_base (in_body n x a ∷ fs) = refl
+flat_base (in_cond n ∷ fs) = refl
+flat_base (in_then n a ∷ fs) = refl
+flat_base (in_else n a b ∷ fs) = refl
+flat_base (right_of o a ∷ fs) = refl
 
-patch-at : (xs : List Op) (f : Tok) (n k : ℕ) (ys : List Op) → patch (xs ++ (o-call f n ∷ ys)) (length xs) k ≡ xs ++ (o-call f k ∷ ys)
-patch-at [] f n k ys = refl
-patch-at (x ∷ xs) f n k ys = ap (λ l. x ∷ l) (patch-at xs f n k ys)
+patch_at : (xs : List Op) (f : Tok) (n k : ℕ) (ys : List Op) → patch (xs ++ (o_call f n ∷ ys)) (length xs) k ≡ xs ++ (o_call f k ∷ ys)
+patch_at [] f n k ys = refl
+patch_at (x ∷ xs) f n k ys = ap (λ l. x ∷ l) (patch_at xs f n k ys)
 
-codes-put : (es : List E) (xs : Es) → ontos (put-all es xs) [] ≡ args-out es ++ ontos xs []
-codes-put [] xs = refl
-codes-put (a ∷ es) xs = codes-put es (and-then a xs) ∙ ap (λ l. args-out es ++ l) (onto-is a (o-arg ∷ ontos xs [])) ∙ simp append-assoc
+codes_put : (es : List E) (xs : Es) → ontos (put_all es xs) [] ≡ args_out es ++ ontos xs []
+codes_put [] xs = refl
+codes_put (a ∷ es) xs = codes_put es (and_then a xs) ∙ ap (λ l. args_out es ++ l) (onto_is a (o_arg ∷ ontos xs [])) ∙ simp append_assoc
 
-count-put : (es : List E) (xs : Es) → count (put-all es xs) ≡ length es + count xs
-count-put [] xs = omega arith
-count-put (a ∷ es) xs = let e = count-put es (and-then a xs) in omega arith
+count_put : (es : List E) (xs : Es) → count (put_all es xs) ≡ length es + count xs
+count_put [] xs = omega arith
+count_put (a ∷ es) xs = let e = count_put es (and_then a xs) in omega arith
 
-flat-eats : (w : Word) (ts : List Tok) (F : Tok → List Tok → Tree-State) (G : Tok → List Tok → State) → ((t : Tok) (us : List Tok) → flat (F t us) ≡ G t us) → flat (tree-eats w ts F) ≡ eats w ts G
-flat-eats w [] F G e = refl
-flat-eats w (t ∷ ts) F G e = go (same (t .w) w) (e t ts)
+flat_eats : (w : Word) (ts : List Tok) (F : Tok → List Tok → TreeState) (G : Tok → List Tok → State) → ((t : Tok) (us : List Tok) → flat (F t us) ≡ G t us) → flat (tree_eats w ts F) ≡ eats w ts G
+flat_eats w [] F G e = refl
+flat_eats w (t ∷ ts) F G e = go (same t.w w) (e t ts)
   where
-    go : (b : Bool) → flat (F t ts) ≡ G t ts → flat (pick b (F t ts) (tree-lost (t ∷ ts))) ≡ pick b (G t ts) (lost (t ∷ ts))
+    go : (b : Bool) → flat (F t ts) ≡ G t ts → flat (pick b (F t ts) (tree_lost (t ∷ ts))) ≡ pick b (G t ts) (lost (t ∷ ts))
     go true e = e
     go false e = refl
 
-flat-names : (ts : List Tok) (F : Tok → List Tok → Tree-State) (G : Tok → List Tok → State) → ((t : Tok) (us : List Tok) → flat (F t us) ≡ G t us) → flat (tree-word is-name ts F) ≡ names-it ts G
-flat-names [] F G e = refl
-flat-names (t ∷ ts) F G e = go (is-name (t .w)) (e t ts)
+flat_names : (ts : List Tok) (F : Tok → List Tok → TreeState) (G : Tok → List Tok → State) → ((t : Tok) (us : List Tok) → flat (F t us) ≡ G t us) → flat (tree_word is_name ts F) ≡ names_it ts G
+flat_names [] F G e = refl
+flat_names (t ∷ ts) F G e = go (is_name t.w) (e t ts)
   where
-    go : (b : Bool) → flat (F t ts) ≡ G t ts → flat (pick b (F t ts) (tree-lost (t ∷ ts))) ≡ pick b (G t ts) (lost (t ∷ ts))
+    go : (b : Bool) → flat (F t ts) ≡ G t ts → flat (pick b (F t ts) (tree_lost (t ∷ ts))) ≡ pick b (G t ts) (lost (t ∷ ts))
     go true e = e
     go false e = refl
 
-flat-pick : (b : Bool) (X Y : Tree-State) (U V : State) → flat X ≡ U → flat Y ≡ V → flat (pick b X Y) ≡ pick b U V
-flat-pick true X Y U V p q = p
-flat-pick false X Y U V p q = q
+flat_pick : (b : Bool) (X Y : TreeState) (U V : State) → flat X ≡ U → flat Y ≡ V → flat (pick b X Y) ≡ pick b U V
+flat_pick true X Y U V p q = p
+flat_pick false X Y U V p q = q
 
-flat-opt : (o : Option ℕ) (X : Tree-State) (F : ℕ → Tree-State) (U : State) (G : ℕ → State) → flat X ≡ U → ((x : ℕ) → flat (F x) ≡ G x) → flat (opt o X F) ≡ opt o U G
-flat-opt none X F U G p q = p
-flat-opt (some x) X F U G p q = q x
+flat_opt : (o : Option ℕ) (X : TreeState) (F : ℕ → TreeState) (U : State) (G : ℕ → State) → flat X ≡ U → ((x : ℕ) → flat (F x) ≡ G x) → flat (opt o X F) ≡ opt o U G
+flat_opt none X F U G p q = p
+flat_opt (some x) X F U G p q = q x
 
-call-code : (fs : List Tree-Frame) (f : Tok) (es : List E) (a : E) (n : ℕ) → outs fs ++ code (e-call f (put-all es (and-then a no)) n) ≡ patch (((outs fs ++ (o-call f 0 ∷ args-out es)) ++ code a) ++ (o-arg ∷ [])) (length (outs fs)) (suc (length es)) ++ (o-end n ∷ [])
-call-code fs f es a n =
+call_code : (fs : List TreeFrame) (f : Tok) (es : List E) (a : E) (n : ℕ) → outs fs ++ code (e_call f (put_all es (and_then a no)) n) ≡ patch (((outs fs ++ (o_call f 0 ∷ args_out es)) ++ code a) ++ (o_arg ∷ [])) (length (outs fs)) (suc (length es)) ++ (o_end n ∷ [])
+call_code fs f es a n =
     let xs = outs fs in
-    let k : count (put-all es (and-then a no)) ≡ suc (length es) = count-put es (and-then a no) ∙ omega arith in
-    let ys = args-out es ++ (code a ++ (o-arg ∷ [])) in
-    let c : ontos (put-all es (and-then a no)) [] ≡ ys = codes-put es (and-then a no) ∙ ap (λ l. args-out es ++ l) (onto-is a (o-arg ∷ [])) in
-    let r : ((xs ++ (o-call f 0 ∷ args-out es)) ++ code a) ++ (o-arg ∷ []) ≡ xs ++ (o-call f 0 ∷ ys) = simp append-assoc in
-    ap (λ l. xs ++ l) (code-call f (put-all es (and-then a no)) n) ∙ (λ i. xs ++ (o-call f (k i) ∷ (c i ++ (o-end n ∷ [])))) ∙ sym (append-assoc xs (o-call f (suc (length es)) ∷ ys) (o-end n ∷ [])) ∙
-    ap (λ l. l ++ (o-end n ∷ [])) (sym (patch-at xs f 0 (suc (length es)) ys) ∙ ap (λ l. patch l (length xs) (suc (length es))) (sym r))
+    let k : count (put_all es (and_then a no)) ≡ suc (length es) = count_put es (and_then a no) ∙ omega arith in
+    let ys = args_out es ++ (code a ++ (o_arg ∷ [])) in
+    let c : ontos (put_all es (and_then a no)) [] ≡ ys = codes_put es (and_then a no) ∙ ap (λ l. args_out es ++ l) (onto_is a (o_arg ∷ [])) in
+    let r : ((xs ++ (o_call f 0 ∷ args_out es)) ++ code a) ++ (o_arg ∷ []) ≡ xs ++ (o_call f 0 ∷ ys) = simp append_assoc in
+    ap (λ l. xs ++ l) (code_call f (put_all es (and_then a no)) n) ∙ (λ i. xs ++ (o_call f (k i) ∷ (c i ++ (o_end n ∷ [])))) ∙ sym (append_assoc xs (o_call f (suc (length es)) ∷ ys) (o_end n ∷ [])) ∙
+    ap (λ l. l ++ (o_end n ∷ [])) (sym (patch_at xs f 0 (suc (length es)) ys) ∙ ap (λ l. patch l (length xs) (suc (length es))) (sym r))
 
-pop-flat : (a : E) (ts : List Tok) (fs : List Tree-Frame) → flat (tree-pop a ts fs) ≡ pop ts (flats fs) (outs fs ++ code a)
-pop-flat a ts [] = refl
-pop-flat a ts (in-par n ∷ fs) = flat-eats t-rp ts _ _ (λ r us. ap (going (p-value 7) us (flats fs)) (ap (λ l. outs fs ++ l) (code-par n a (r .to)) ∙ simp append-assoc))
-pop-flat a ts (in-call f es ∷ fs) = flat-pick (same (next ts) t-comma) _ _ _ _ (ap (going p-begin (tail1 ts) (f-call (length (outs fs)) (suc (length es)) ∷ flats fs)) (simp append-assoc)) (flat-eats t-rp ts _ _ (λ r us. ap (going (p-value 7) us (flats fs)) (call-code fs f es a (r .to))))
-pop-flat a ts (in-bound n x ∷ fs) = flat-eats k-in ts _ _ (λ i us. ap (going p-begin us (f-body n ∷ flats fs)) (simp append-assoc))
-pop-flat b ts (in-body n x a ∷ fs) = ap (going (p-value 0) ts (flats fs)) (ap (λ l. outs fs ++ l) (code-let n x a b) ∙ simp append-assoc)
-pop-flat a ts (in-cond n ∷ fs) = flat-eats k-then ts _ _ (λ i us. ap (going p-begin us (f-then n ∷ flats fs)) (simp append-assoc))
-pop-flat b ts (in-then n a ∷ fs) = flat-eats k-else ts _ _ (λ i us. ap (going p-begin us (f-else n ∷ flats fs)) (simp append-assoc))
-pop-flat c ts (in-else n a b ∷ fs) = ap (going (p-value 0) ts (flats fs)) (ap (λ l. outs fs ++ l) (code-if n a b c) ∙ simp append-assoc)
-pop-flat b ts (right-of o a ∷ fs) = ap (going (p-value (made (lev o))) ts (flats fs)) (ap (λ l. outs fs ++ l) (code-op o a b) ∙ simp append-assoc)
+pop_flat : (a : E) (ts : List Tok) (fs : List TreeFrame) → flat (tree_pop a ts fs) ≡ pop ts (flats fs) (outs fs ++ code a)
+pop_flat a ts [] = refl
+pop_flat a ts (in_par n ∷ fs) = flat_eats t_rp ts _ _ (λ r us. ap (going (p_value 7) us (flats fs)) (ap (λ l. outs fs ++ l) (code_par n a r.to) ∙ simp append_assoc))
+pop_flat a ts (in_call f es ∷ fs) = flat_pick (same (next ts) t_comma) _ _ _ _ (ap (going p_begin (tail1 ts) (f_call (length (outs fs)) (suc (length es)) ∷ flats fs)) (simp append_assoc)) (flat_eats t_rp ts _ _ (λ r us. ap (going (p_value 7) us (flats fs)) (call_code fs f es a r.to)))
+pop_flat a ts (in_bound n x ∷ fs) = flat_eats k_in ts _ _ (λ i us. ap (going p_begin us (f_body n ∷ flats fs)) (simp append_assoc))
+pop_flat b ts (in_body n x a ∷ fs) = ap (going (p_value 0) ts (flats fs)) (ap (λ l. outs fs ++ l) (code_let n x a b) ∙ simp append_assoc)
+pop_flat a ts (in_cond n ∷ fs) = flat_eats k_then ts _ _ (λ i us. ap (going p_begin us (f_then n ∷ flats fs)) (simp append_assoc))
+pop_flat b ts (in_then n a ∷ fs) = flat_eats k_else ts _ _ (λ i us. ap (going p_begin us (f_else n ∷ flats fs)) (simp append_assoc))
+pop_flat c ts (in_else n a b ∷ fs) = ap (going (p_value 0) ts (flats fs)) (ap (λ l. outs fs ++ l) (code_if n a b c) ∙ simp append_assoc)
+pop_flat b ts (right_of o a ∷ fs) = ap (going (p_value (made (lev o))) ts (flats fs)) (ap (λ l. outs fs ++ l) (code_op o a b) ∙ simp append_assoc)
 
-begin-flat : (ts : List Tok) (fs : List Tree-Frame) → flat (tree-begin ts fs) ≡ do-begin ts (flats fs) (outs fs)
-begin-flat ts fs = flat-pick (same (next ts) k-let) _ _ _ _ (flat-eats k-let ts _ _ (λ l us. flat-names us _ _ (λ x vs. flat-eats t-gets vs _ _ (λ g xs. refl)))) (flat-pick (same (next ts) k-if) _ _ _ _ (flat-eats k-if ts _ _ (λ l us. refl)) refl)
+begin_flat : (ts : List Tok) (fs : List TreeFrame) → flat (tree_begin ts fs) ≡ do_begin ts (flats fs) (outs fs)
+begin_flat ts fs = flat_pick (same (next ts) k_let) _ _ _ _ (flat_eats k_let ts _ _ (λ l us. flat_names us _ _ (λ x vs. flat_eats t_gets vs _ _ (λ g xs. refl)))) (flat_pick (same (next ts) k_if) _ _ _ _ (flat_eats k_if ts _ _ (λ l us. refl)) refl)
 
-call-flat : (f : Tok) (ts : List Tok) (fs : List Tree-Frame) → flat (tree-call f ts fs) ≡ do-call f ts (flats fs) (outs fs)
-call-flat f ts fs = flat-pick (same (next ts) t-rp) _ _ _ _ (flat-eats t-rp ts _ _ (λ r us. refl)) refl
+call_flat : (f : Tok) (ts : List Tok) (fs : List TreeFrame) → flat (tree_call f ts fs) ≡ do_call f ts (flats fs) (outs fs)
+call_flat f ts fs = flat_pick (same (next ts) t_rp) _ _ _ _ (flat_eats t_rp ts _ _ (λ r us. refl)) refl
 
-atom-flat : (ts : List Tok) (fs : List Tree-Frame) → flat (tree-atom ts fs) ≡ do-atom ts (flats fs) (outs fs)
-atom-flat [] fs = refl
-atom-flat (t ∷ ts) fs = flat-pick (same (t .w) t-lp) _ _ _ _ refl (flat-pick (is-number (t .w)) _ _ _ _ (flat-pick (digits (t .w)) _ _ _ _ refl refl) (flat-pick (is-name (t .w)) _ _ _ _ (flat-pick (same (next ts) t-lp) _ _ _ _ (call-flat t (tail1 ts) fs) refl) refl))
+atom_flat : (ts : List Tok) (fs : List TreeFrame) → flat (tree_atom ts fs) ≡ do_atom ts (flats fs) (outs fs)
+atom_flat [] fs = refl
+atom_flat (t ∷ ts) fs = flat_pick (same t.w t_lp) _ _ _ _ refl (flat_pick (is_number t.w) _ _ _ _ (flat_pick (digits t.w) _ _ _ _ refl refl) (flat_pick (is_name t.w) _ _ _ _ (flat_pick (same (next ts) t_lp) _ _ _ _ (call_flat t (tail1 ts) fs) refl) refl))
 
-value-flat : (l : ℕ) (a : E) (ts : List Tok) (fs : List Tree-Frame) → flat (tree-value l a ts fs) ≡ do-value l ts (flats fs) (outs fs ++ code a)
-value-flat zero a ts fs = pop-flat a ts fs
-value-flat (suc j) a ts fs = flat-pick (leb (suc j) (tree-base fs)) _ _ _ _ (pop-flat a ts fs) (flat-pick (eqb j 6) _ _ _ _
-    (flat-pick (same (next ts) t-dot) _ _ _ _ (flat-names (tail1 ts) _ _ (λ x us. ap (going (p-value 7) us (flats fs)) (ap (λ l. outs fs ++ l) (code-field a x) ∙ sym (append-assoc (outs fs) (code a) (o-field x ∷ []))))) refl)
-    (flat-opt (op-any j (next ts)) _ _ _ _ refl (λ o. refl)))
-    ∙ ap (λ b. pick (leb (suc j) b) (pop ts (flats fs) (outs fs ++ code a)) (pick (eqb j 6) (do-dot ts (flats fs) (outs fs ++ code a)) (do-op j ts (flats fs) (outs fs ++ code a)))) (sym (flat-base fs))
+value_flat : (l : ℕ) (a : E) (ts : List Tok) (fs : List TreeFrame) → flat (tree_value l a ts fs) ≡ do_value l ts (flats fs) (outs fs ++ code a)
+value_flat zero a ts fs = pop_flat a ts fs
+value_flat (suc j) a ts fs = flat_pick (leb (suc j) (tree_base fs)) _ _ _ _ (pop_flat a ts fs) (flat_pick (eqb j 6) _ _ _ _
+    (flat_pick (same (next ts) t_dot) _ _ _ _ (flat_names (tail1 ts) _ _ (λ x us. ap (going (p_value 7) us (flats fs)) (ap (λ l. outs fs ++ l) (code_field a x) ∙ sym (append_assoc (outs fs) (code a) (o_field x ∷ []))))) refl)
+    (flat_opt (op_any j (next ts)) _ _ _ _ refl (λ o. refl)))
+    ∙ ap (λ b. pick (leb (suc j) b) (pop ts (flats fs) (outs fs ++ code a)) (pick (eqb j 6) (do_dot ts (flats fs) (outs fs ++ code a)) (do_op j ts (flats fs) (outs fs ++ code a)))) (sym (flat_base fs))
 
-pub step-flat : (s : Tree-State) → flat (tree-step s) ≡ step (flat s)
-step-flat (tree-going at-begin ts fs) = begin-flat ts fs
-step-flat (tree-going at-atom ts fs) = atom-flat ts fs
-step-flat (tree-going (at-value l a) ts fs) = value-flat l a ts fs
-step-flat (tree-won a ts) = refl
-step-flat (tree-lost ts) = refl
+pub step_flat : (s : TreeState) → flat (tree_step s) ≡ step (flat s)
+step_flat (tree_going at_begin ts fs) = begin_flat ts fs
+step_flat (tree_going at_atom ts fs) = atom_flat ts fs
+step_flat (tree_going (at_value l a) ts fs) = value_flat l a ts fs
+step_flat (tree_won a ts) = refl
+step_flat (tree_lost ts) = refl
 
-run-flat : (n : ℕ) (s : Tree-State) → run n (flat s) ≡ flat (tree-run n s)
-run-flat zero s = refl
-run-flat (suc n) s = ap (run n) (sym (step-flat s)) ∙ run-flat n (tree-step s)
+run_flat : (n : ℕ) (s : TreeState) → run n (flat s) ≡ flat (tree_run n s)
+run_flat zero s = refl
+run_flat (suc n) s = ap (run n) (sym (step_flat s)) ∙ run_flat n (tree_step s)
 
-same-got : (g : Got E) → flat (as-tree g) ≡ as-code g
-same-got (it e us) = refl
-same-got (bad us) = refl
+same_got : (g : Got E) → flat (as_tree g) ≡ as_code g
+same_got (it e us) = refl
+same_got (bad us) = refl
 
-pub flat-is : (n m : ℕ) (ts : List Tok) → 10 * length ts + 10 ≤ n → 9 * length ts + 2 ≤ m → run m (start ts) ≡ as-code (expr n ts)
-flat-is n m ts h k = run-flat m (tree-start ts) ∙ ap flat (machine-is n m ts h k) ∙ same-got (expr n ts)
+pub flat_is : (n m : ℕ) (ts : List Tok) → 10 * length ts + 10 ≤ n → 9 * length ts + 2 ≤ m → run m (start ts) ≡ as_code (expr n ts)
+flat_is n m ts h k = run_flat m (tree_start ts) ∙ ap flat (machine_is n m ts h k) ∙ same_got (expr n ts)
 
 -- the measure, and what a state comes to
-l-pick : (m : ℕ) (b : Bool) (X Y : State) → (b ≡ true → effort X ≤ m) → (b ≡ false → effort Y ≤ m) → effort (pick b X Y) ≤ m
-l-pick m true X Y p q = p refl
-l-pick m false X Y p q = q refl
+l_pick : (m : ℕ) (b : Bool) (X Y : State) → (b ≡ true → effort X ≤ m) → (b ≡ false → effort Y ≤ m) → effort (pick b X Y) ≤ m
+l_pick m true X Y p q = p refl
+l_pick m false X Y p q = q refl
 
-l-eat : (m : ℕ) (w : Word) (ts : List Tok) (F : Tok → List Tok → State) → ((t : Tok) (us : List Tok) → suc (length us) ≤ length ts → effort (F t us) ≤ m) → effort (eats w ts F) ≤ m
-l-eat m w [] F h = omega arith
-l-eat m w (t ∷ ts) F h = l-pick m (same (t .w) w) (F t ts) (lost (t ∷ ts)) (λ p. h t ts (omega arith)) (λ p. omega arith)
+l_eat : (m : ℕ) (w : Word) (ts : List Tok) (F : Tok → List Tok → State) → ((t : Tok) (us : List Tok) → suc (length us) ≤ length ts → effort (F t us) ≤ m) → effort (eats w ts F) ≤ m
+l_eat m w [] F h = omega arith
+l_eat m w (t ∷ ts) F h = l_pick m (same t.w w) (F t ts) (lost (t ∷ ts)) (λ p. h t ts (omega arith)) (λ p. omega arith)
 
-l-word : (m : ℕ) (ts : List Tok) (F : Tok → List Tok → State) → ((t : Tok) (us : List Tok) → suc (length us) ≤ length ts → effort (F t us) ≤ m) → effort (names-it ts F) ≤ m
-l-word m [] F h = omega arith
-l-word m (t ∷ ts) F h = l-pick m (is-name (t .w)) (F t ts) (lost (t ∷ ts)) (λ p. h t ts (omega arith)) (λ p. omega arith)
+l_word : (m : ℕ) (ts : List Tok) (F : Tok → List Tok → State) → ((t : Tok) (us : List Tok) → suc (length us) ≤ length ts → effort (F t us) ≤ m) → effort (names_it ts F) ≤ m
+l_word m [] F h = omega arith
+l_word m (t ∷ ts) F h = l_pick m (is_name t.w) (F t ts) (lost (t ∷ ts)) (λ p. h t ts (omega arith)) (λ p. omega arith)
 
-pop-less : (m : ℕ) (ts : List Tok) (fs : List Frame) (c : List Op) → 9 * length ts + 7 * length fs ≤ m → effort (pop ts fs c) ≤ m
-pop-less m ts [] c h = omega arith
-pop-less m ts (f-par n ∷ fs) c h = l-eat m t-rp ts _ (λ r us l. omega arith)
-pop-less m ts (f-call p k ∷ fs) c h = l-pick m (same (next ts) t-comma) _ _ (λ e. omega (arith, tail-less ts 44 [] e)) (λ e. l-eat m t-rp ts _ (λ r us l. omega arith))
-pop-less m ts (f-bound n x ∷ fs) c h = l-eat m k-in ts _ (λ r us l. omega arith)
-pop-less m ts (f-body n ∷ fs) c h = omega arith
-pop-less m ts (f-cond n ∷ fs) c h = l-eat m k-then ts _ (λ r us l. omega arith)
-pop-less m ts (f-then n ∷ fs) c h = l-eat m k-else ts _ (λ r us l. omega arith)
-pop-less m ts (f-else n ∷ fs) c h = omega arith
-pop-less m ts (f-right o ∷ fs) c h = omega (arith, made-most (lev o) (lev-in o .1))
+pop_less : (m : ℕ) (ts : List Tok) (fs : List Frame) (c : List Op) → 9 * length ts + 7 * length fs ≤ m → effort (pop ts fs c) ≤ m
+pop_less m ts [] c h = omega arith
+pop_less m ts (f_par n ∷ fs) c h = l_eat m t_rp ts _ (λ r us l. omega arith)
+pop_less m ts (f_call p k ∷ fs) c h = l_pick m (same (next ts) t_comma) _ _ (λ e. omega (arith, tail_less ts 44 [] e)) (λ e. l_eat m t_rp ts _ (λ r us l. omega arith))
+pop_less m ts (f_bound n x ∷ fs) c h = l_eat m k_in ts _ (λ r us l. omega arith)
+pop_less m ts (f_body n ∷ fs) c h = omega arith
+pop_less m ts (f_cond n ∷ fs) c h = l_eat m k_then ts _ (λ r us l. omega arith)
+pop_less m ts (f_then n ∷ fs) c h = l_eat m k_else ts _ (λ r us l. omega arith)
+pop_less m ts (f_else n ∷ fs) c h = omega arith
+pop_less m ts (f_right o ∷ fs) c h = omega (arith, made_most (lev o) (lev_in o).1)
 
-op-less : (m j : ℕ) (ts : List Tok) (fs : List Frame) (c : List Op) → 9 * length ts + (7 * length fs + suc j) ≤ m → effort (do-op j ts fs c) ≤ m
-op-less m j [] fs c h = subst (λ q. effort (opt q (going (p-value j) [] fs c) (λ o. going p-atom [] (f-right o ∷ fs) c)) ≤ m) (sym (any-none j)) (omega arith)
-op-less m j (t ∷ ts) fs c h = go (op-any j (t .w))
+op_less : (m j : ℕ) (ts : List Tok) (fs : List Frame) (c : List Op) → 9 * length ts + (7 * length fs + suc j) ≤ m → effort (do_op j ts fs c) ≤ m
+op_less m j [] fs c h = subst (λ q. effort (opt q (going (p_value j) [] fs c) (λ o. going p_atom [] (f_right o ∷ fs) c)) ≤ m) (sym (any_none j)) (omega arith)
+op_less m j (t ∷ ts) fs c h = go (op_any j t.w)
   where
-    go : (q : Option ℕ) → effort (opt q (going (p-value j) (t ∷ ts) fs c) (λ o. going p-atom ts (f-right o ∷ fs) c)) ≤ m
+    go : (q : Option ℕ) → effort (opt q (going (p_value j) (t ∷ ts) fs c) (λ o. going p_atom ts (f_right o ∷ fs) c)) ≤ m
     go none = omega arith
     go (some o) = omega arith
 
-pub step-less : (m : ℕ) (s : State) → effort s ≤ suc m → effort (step s) ≤ m
-step-less m (going p-begin ts fs c) h = l-pick m (same (next ts) k-let) _ _
-    (λ p. l-eat m k-let ts _ (λ l us h1. l-word m us _ (λ x vs h2. l-eat m t-gets vs _ (λ g xs h3. omega arith))))
-    (λ p. l-pick m (same (next ts) k-if) _ _ (λ q. l-eat m k-if ts _ (λ l us h1. omega arith)) (λ q. omega arith))
-step-less m (going p-atom [] fs c) h = omega arith
-step-less m (going p-atom (t ∷ ts) fs c) h =
-    l-pick m (same (t .w) t-lp) _ _ (λ p. omega arith) (λ p. l-pick m (is-number (t .w)) _ _ (λ q. l-pick m (digits (t .w)) _ _ (λ r. omega arith) (λ r. omega arith)) (λ q.
-    l-pick m (is-name (t .w)) _ _ (λ r. l-pick m (same (next ts) t-lp) _ _ (λ s. let q = tail-most ts in l-pick m (same (next (tail1 ts)) t-rp) _ _ (λ u. l-eat m t-rp (tail1 ts) _ (λ v us l. omega arith)) (λ u. omega arith)) (λ s. omega arith)) (λ r. omega arith)))
-step-less m (going (p-value zero) ts fs c) h = pop-less m ts fs c (omega arith)
-step-less m (going (p-value (suc j)) ts fs c) h = l-pick m (leb (suc j) (base fs)) _ _ (λ p. pop-less m ts fs c (omega arith)) (λ p.
-    l-pick m (eqb j 6) _ _ (λ q. let e = eqb-true j 6 q in l-pick m (same (next ts) t-dot) _ _ (λ r. l-word m (tail1 ts) _ (λ x us l. omega (arith, tail-most ts))) (λ r. omega arith)) (λ q. op-less m j ts fs c (omega arith)))
-step-less m (won c ts) h = omega arith
-step-less m (lost ts) h = omega arith
+pub step_less : (m : ℕ) (s : State) → effort s ≤ suc m → effort (step s) ≤ m
+step_less m (going p_begin ts fs c) h = l_pick m (same (next ts) k_let) _ _
+    (λ p. l_eat m k_let ts _ (λ l us h1. l_word m us _ (λ x vs h2. l_eat m t_gets vs _ (λ g xs h3. omega arith))))
+    (λ p. l_pick m (same (next ts) k_if) _ _ (λ q. l_eat m k_if ts _ (λ l us h1. omega arith)) (λ q. omega arith))
+step_less m (going p_atom [] fs c) h = omega arith
+step_less m (going p_atom (t ∷ ts) fs c) h =
+    l_pick m (same t.w t_lp) _ _ (λ p. omega arith) (λ p. l_pick m (is_number t.w) _ _ (λ q. l_pick m (digits t.w) _ _ (λ r. omega arith) (λ r. omega arith)) (λ q.
+    l_pick m (is_name t.w) _ _ (λ r. l_pick m (same (next ts) t_lp) _ _ (λ s. let q = tail_most ts in l_pick m (same (next (tail1 ts)) t_rp) _ _ (λ u. l_eat m t_rp (tail1 ts) _ (λ v us l. omega arith)) (λ u. omega arith)) (λ s. omega arith)) (λ r. omega arith)))
+step_less m (going (p_value zero) ts fs c) h = pop_less m ts fs c (omega arith)
+step_less m (going (p_value (suc j)) ts fs c) h = l_pick m (leb (suc j) (base fs)) _ _ (λ p. pop_less m ts fs c (omega arith)) (λ p.
+    l_pick m (eqb j 6) _ _ (λ q. let e = eqb-true j 6 q in l_pick m (same (next ts) t_dot) _ _ (λ r. l_word m (tail1 ts) _ (λ x us l. omega (arith, tail_most ts))) (λ r. omega arith)) (λ q. op_less m j ts fs c (omega arith)))
+step_less m (won c ts) h = omega arith
+step_less m (lost ts) h = omega arith
 
 -- what a state comes to; a step keeps it
-stays-won : (n : ℕ) (c : List Op) (ts : List Tok) → run n (won c ts) ≡ won c ts
-stays-won zero c ts = refl
-stays-won (suc n) c ts = stays-won n c ts
+stays_won : (n : ℕ) (c : List Op) (ts : List Tok) → run n (won c ts) ≡ won c ts
+stays_won zero c ts = refl
+stays_won (suc n) c ts = stays_won n c ts
 
-stays-lost : (n : ℕ) (ts : List Tok) → run n (lost ts) ≡ lost ts
-stays-lost zero ts = refl
-stays-lost (suc n) ts = stays-lost n ts
+stays_lost : (n : ℕ) (ts : List Tok) → run n (lost ts) ≡ lost ts
+stays_lost zero ts = refl
+stays_lost (suc n) ts = stays_lost n ts
 
 still : (n m : ℕ) (s : State) → effort s ≤ 0 → run n s ≡ run m s
 still n m (going q ts fs c) h = absurd (omega arith)
-still n m (won c ts) h = stays-won n c ts ∙ sym (stays-won m c ts)
-still n m (lost ts) h = stays-lost n ts ∙ sym (stays-lost m ts)
+still n m (won c ts) h = stays_won n c ts ∙ sym (stays_won m c ts)
+still n m (lost ts) h = stays_lost n ts ∙ sym (stays_lost m ts)
 
-pub run-more : (n m : ℕ) (s : State) → effort s ≤ n → effort s ≤ m → run n s ≡ run m s
-run-more zero m s h k = still zero m s h
-run-more (suc n) zero s h k = still (suc n) zero s k
-run-more (suc n) (suc m) s h k = run-more n m (step s) (step-less n s h) (step-less m s k)
+pub run_more : (n m : ℕ) (s : State) → effort s ≤ n → effort s ≤ m → run n s ≡ run m s
+run_more zero m s h k = still zero m s h
+run_more (suc n) zero s h k = still (suc n) zero s k
+run_more (suc n) (suc m) s h k = run_more n m (step s) (step_less n s h) (step_less m s k)
 
-pub outcome-step : (s : State) → outcome (step s) ≡ outcome s
+pub outcome_step : (s : State) → outcome (step s) ≡ outcome s
 unfolding outcome
-outcome-step s = let n = effort s in run-more (effort (step s)) n (step s) (omega arith) (step-less n s (omega arith)) ∙ run-more (suc n) n s (omega arith) (omega arith)
+outcome_step s = let n = effort s in run_more (effort (step s)) n (step s) (omega arith) (step_less n s (omega arith)) ∙ run_more (suc n) n s (omega arith) (omega arith)
 
-pub outcome-won : (c : List Op) (ts : List Tok) → outcome (won c ts) ≡ won c ts
+pub outcome_won : (c : List Op) (ts : List Tok) → outcome (won c ts) ≡ won c ts
 unfolding outcome
-outcome-won c ts = refl
+outcome_won c ts = refl
 
-pub outcome-lost : (ts : List Tok) → outcome (lost ts) ≡ lost ts
+pub outcome_lost : (ts : List Tok) → outcome (lost ts) ≡ lost ts
 unfolding outcome
-outcome-lost ts = refl
+outcome_lost ts = refl
 
-pub outcome-start : (n : ℕ) (ts : List Tok) → 10 * length ts + 10 ≤ n → outcome (start ts) ≡ as-code (expr n ts)
+pub outcome_start : (n : ℕ) (ts : List Tok) → 10 * length ts + 10 ≤ n → outcome (start ts) ≡ as_code (expr n ts)
 unfolding outcome
-outcome-start n ts h = flat-is n (effort (start ts)) ts h (omega arith)
+outcome_start n ts h = flat_is n (effort (start ts)) ts h (omega arith)
 
 -- what was read, from what the machine came to
-pub is-won : (n : ℕ) (ts us : List Tok) (c : List Op) → 10 * length ts + 10 ≤ n → outcome (start ts) ≡ won c us → (e : E) × (expr n ts ≡ it e us) × (c ≡ code e)
-is-won n ts us c h p = go (expr n ts) (sym (outcome-start n ts h) ∙ p)
+pub is_won : (n : ℕ) (ts us : List Tok) (c : List Op) → 10 * length ts + 10 ≤ n → outcome (start ts) ≡ won c us → (e : E) × (expr n ts ≡ it e us) × (c ≡ code e)
+is_won n ts us c h p = go (expr n ts) (sym (outcome_start n ts h) ∙ p)
   where
-    go : (g : Got E) → as-code g ≡ won c us → (e : E) × (g ≡ it e us) × (c ≡ code e)
+    go : (g : Got E) → as_code g ≡ won c us → (e : E) × (g ≡ it e us) × (c ≡ code e)
     go (it e vs) q = (e, cc, cc)
     go (bad vs) q = let x : zero ≡ suc zero = cc in absurd (omega arith)
 
-pub is-lost : (n : ℕ) (ts us : List Tok) → 10 * length ts + 10 ≤ n → outcome (start ts) ≡ lost us → expr n ts ≡ bad us
-is-lost n ts us h p = go (expr n ts) (sym (outcome-start n ts h) ∙ p)
+pub is_lost : (n : ℕ) (ts us : List Tok) → 10 * length ts + 10 ≤ n → outcome (start ts) ≡ lost us → expr n ts ≡ bad us
+is_lost n ts us h p = go (expr n ts) (sym (outcome_start n ts h) ∙ p)
   where
-    go : (g : Got E) → as-code g ≡ lost us → g ≡ bad us
+    go : (g : Got E) → as_code g ≡ lost us → g ≡ bad us
     go (it e vs) q = cc
     go (bad vs) q = cc

@@ -1,282 +1,282 @@
 -- A machine with trees in its frames that comes to what the definition comes to.
-use mathlib.Core.Path.{_≡_, refl, sym, ap, subst, _∙_}
+use mathlib.Core.Path.{◌≡◌, refl, sym, ap, subst, ◌∙◌}
 use mathlib.Core.Bool.{Bool, true, false}
-use mathlib.Core.List.{List, [], _∷_}
+use mathlib.Core.List.{List, [], ◌∷◌}
 use mathlib.Core.Option.{Option, some, none}
-use Prim.Native.Nat.{ℕ, zero, suc, _+_, _*_, _≤_, _<_}
+use Prim.Native.Nat.{ℕ, zero, suc, ◌+◌, ◌*◌, ◌≤◌, ◌<◌}
 use native.Mathlib.Omega.{arith}
 use lib.ListN.{length}
 use lib.Dec.{eqb, leb}
-use borrow.Author.Tests.{eqb-true, eqb-false, eq-eqb, ne-eqb, leb-true, leb-false, lt-leb}
-use Rattle·base.specs.Base.{pick, opt, Word, same}
-use Rattle·lexer.specs.Tokens.{Tok, next, tail1}
-use Rattle·lexer.specs.Words.{is-name, is-number, digits, k-let, k-in, k-if, k-then, k-else, t-lp, t-rp, t-comma, t-gets, t-dot, op-any}
-use Rattle·grammar·specs.Grammar.{E, Es, no, and-then, e-num, e-name, e-call, e-field, e-op, e-if, e-let, e-par, Got, it, bad, with1, eat, a-word}
-use Rattle·grammar·specs.Machine.{lev, made}
-use Rattle·grammar·proofs.Free.{an-expr, a-let, an-if, a-level, a-fields, an-atom, a-call, an-args, expr-eq, let-eq, if-eq, fields-eq, atom-eq, call-eq, args-eq, next-level, level-step, level-last, after, next-eq, lev-in, At-level, op-level}
+use borrow.Author.Tests.{eqb-true, eqb-false, eq-eqb, ne_eqb, leb-true, leb-false, lt-leb}
+use Rattle.base.specs.Base.{pick, opt, Word, same}
+use Rattle.lexer.specs.Tokens.{Tok, next, tail1}
+use Rattle.lexer.specs.Words.{is_name, is_number, digits, k_let, k_in, k_if, k_then, k_else, t_lp, t_rp, t_comma, t_gets, t_dot, op_any}
+use Rattle.grammar.specs.Grammar.{E, Es, no, and_then, e_num, e_name, e_call, e_field, e_op, e_if, e_let, e_par, Got, it, bad, with1, eat, a_word}
+use Rattle.grammar.specs.Machine.{lev, made}
+use Rattle.grammar.proofs.Free.{an_expr, a_let, an_if, a_level, a_fields, an_atom, a_call, an_args, expr_eq, let_eq, if_eq, fields_eq, atom_eq, call_eq, args_eq, next_level, level_step, level_last, after, next_eq, lev_in, AtLevel, op_level}
 
 -- what waits for a value
-pub data Tree-Frame : Type 0 where
-  in-par : ℕ → Tree-Frame
-  in-call : Tok → List E → Tree-Frame
-  in-bound : ℕ → Tok → Tree-Frame
-  in-body : ℕ → Tok → E → Tree-Frame
-  in-cond : ℕ → Tree-Frame
-  in-then : ℕ → E → Tree-Frame
-  in-else : ℕ → E → E → Tree-Frame
-  right-of : ℕ → E → Tree-Frame
+pub data TreeFrame : Type 0 where
+  in_par : ℕ → TreeFrame
+  in_call : Tok → List E → TreeFrame
+  in_bound : ℕ → Tok → TreeFrame
+  in_body : ℕ → Tok → E → TreeFrame
+  in_cond : ℕ → TreeFrame
+  in_then : ℕ → E → TreeFrame
+  in_else : ℕ → E → E → TreeFrame
+  right_of : ℕ → E → TreeFrame
 
 -- an expression is to begin; an atom is to begin; a value of a level is there
-pub data Tree-Phase : Type 0 where
-  at-begin : Tree-Phase
-  at-atom : Tree-Phase
-  at-value : ℕ → E → Tree-Phase
+pub data TreePhase : Type 0 where
+  at_begin : TreePhase
+  at_atom : TreePhase
+  at_value : ℕ → E → TreePhase
 
-pub data Tree-State : Type 0 where
-  tree-going : Tree-Phase → List Tok → List Tree-Frame → Tree-State
-  tree-won : E → List Tok → Tree-State
-  tree-lost : List Tok → Tree-State
+pub data TreeState : Type 0 where
+  tree_going : TreePhase → List Tok → List TreeFrame → TreeState
+  tree_won : E → List Tok → TreeState
+  tree_lost : List Tok → TreeState
 
 -- the level at which what is being read began
-abbrev pub tree-base : List Tree-Frame → ℕ
-tree-base [] = 1
-tree-base (in-par n ∷ fs) = 1
-tree-base (in-call f es ∷ fs) = 1
-tree-base (in-bound n x ∷ fs) = 1
-tree-base (in-body n x a ∷ fs) = 1
-tree-base (in-cond n ∷ fs) = 1
-tree-base (in-then n a ∷ fs) = 1
-tree-base (in-else n a b ∷ fs) = 1
-tree-base (right-of o a ∷ fs) = suc (lev o)
+abbrev pub tree_base : List TreeFrame → ℕ
+tree_base [] = 1
+tree_base (in_par n ∷ fs) = 1
+tree_base (in_call f es ∷ fs) = 1
+tree_base (in_bound n x ∷ fs) = 1
+tree_base (in_body n x a ∷ fs) = 1
+tree_base (in_cond n ∷ fs) = 1
+tree_base (in_then n a ∷ fs) = 1
+tree_base (in_else n a b ∷ fs) = 1
+tree_base (right_of o a ∷ fs) = suc (lev o)
 
 -- arguments, the newest first, before others
-abbrev pub put-all : List E → Es → Es
-put-all [] es = es
-put-all (a ∷ as₁) es = put-all as₁ (and-then a es)
+abbrev pub put_all : List E → Es → Es
+put_all [] es = es
+put_all (a ∷ as₁) es = put_all as₁ (and_then a es)
 
-abbrev pub tree-eats : Word → List Tok → (Tok → List Tok → Tree-State) → Tree-State
-tree-eats w [] f = tree-lost []
-tree-eats w (t ∷ ts) f = pick (same (t .w) w) (f t ts) (tree-lost (t ∷ ts))
+abbrev pub tree_eats : Word → List Tok → (Tok → List Tok → TreeState) → TreeState
+tree_eats w [] f = tree_lost []
+tree_eats w (t ∷ ts) f = pick (same t.w w) (f t ts) (tree_lost (t ∷ ts))
 
-abbrev pub tree-word : (Word → Bool) → List Tok → (Tok → List Tok → Tree-State) → Tree-State
-tree-word ok [] f = tree-lost []
-tree-word ok (t ∷ ts) f = pick (ok (t .w)) (f t ts) (tree-lost (t ∷ ts))
+abbrev pub tree_word : (Word → Bool) → List Tok → (Tok → List Tok → TreeState) → TreeState
+tree_word ok [] f = tree_lost []
+tree_word ok (t ∷ ts) f = pick (ok t.w) (f t ts) (tree_lost (t ∷ ts))
 
-abbrev pub tree-let : List Tok → List Tree-Frame → Tree-State
-tree-let ts fs = tree-eats k-let ts (λ l us. tree-word is-name us (λ x vs. tree-eats t-gets vs (λ g xs. tree-going at-begin xs (in-bound (l .from) x ∷ fs))))
+abbrev pub tree_let : List Tok → List TreeFrame → TreeState
+tree_let ts fs = tree_eats k_let ts (λ l us. tree_word is_name us (λ x vs. tree_eats t_gets vs (λ g xs. tree_going at_begin xs (in_bound l.from x ∷ fs))))
 
-abbrev pub tree-if : List Tok → List Tree-Frame → Tree-State
-tree-if ts fs = tree-eats k-if ts (λ l us. tree-going at-begin us (in-cond (l .from) ∷ fs))
+abbrev pub tree_if : List Tok → List TreeFrame → TreeState
+tree_if ts fs = tree_eats k_if ts (λ l us. tree_going at_begin us (in_cond l.from ∷ fs))
 
-abbrev pub tree-begin : List Tok → List Tree-Frame → Tree-State
-tree-begin ts fs = pick (same (next ts) k-let) (tree-let ts fs) (pick (same (next ts) k-if) (tree-if ts fs) (tree-going at-atom ts fs))
+abbrev pub tree_begin : List Tok → List TreeFrame → TreeState
+tree_begin ts fs = pick (same (next ts) k_let) (tree_let ts fs) (pick (same (next ts) k_if) (tree_if ts fs) (tree_going at_atom ts fs))
 
-abbrev pub tree-call : Tok → List Tok → List Tree-Frame → Tree-State
-tree-call f ts fs = pick (same (next ts) t-rp) (tree-eats t-rp ts (λ r us. tree-going (at-value 7 (e-call f no (r .to))) us fs)) (tree-going at-begin ts (in-call f [] ∷ fs))
+abbrev pub tree_call : Tok → List Tok → List TreeFrame → TreeState
+tree_call f ts fs = pick (same (next ts) t_rp) (tree_eats t_rp ts (λ r us. tree_going (at_value 7 (e_call f no r.to)) us fs)) (tree_going at_begin ts (in_call f [] ∷ fs))
 
-abbrev pub tree-atom : List Tok → List Tree-Frame → Tree-State
-tree-atom [] fs = tree-lost []
-tree-atom (t ∷ ts) fs =
-    pick (same (t .w) t-lp) (tree-going at-begin ts (in-par (t .from) ∷ fs))
-    (pick (is-number (t .w)) (pick (digits (t .w)) (tree-going (at-value 7 (e-num t)) ts fs) (tree-lost (t ∷ ts)))
-    (pick (is-name (t .w)) (pick (same (next ts) t-lp) (tree-call t (tail1 ts) fs) (tree-going (at-value 7 (e-name t)) ts fs)) (tree-lost (t ∷ ts))))
+abbrev pub tree_atom : List Tok → List TreeFrame → TreeState
+tree_atom [] fs = tree_lost []
+tree_atom (t ∷ ts) fs =
+    pick (same t.w t_lp) (tree_going at_begin ts (in_par t.from ∷ fs))
+    (pick (is_number t.w) (pick (digits t.w) (tree_going (at_value 7 (e_num t)) ts fs) (tree_lost (t ∷ ts)))
+    (pick (is_name t.w) (pick (same (next ts) t_lp) (tree_call t (tail1 ts) fs) (tree_going (at_value 7 (e_name t)) ts fs)) (tree_lost (t ∷ ts))))
 
 -- a value goes to what waits for it
-abbrev pub tree-pop : E → List Tok → List Tree-Frame → Tree-State
-tree-pop a ts [] = tree-won a ts
-tree-pop a ts (in-par n ∷ fs) = tree-eats t-rp ts (λ r us. tree-going (at-value 7 (e-par n a (r .to))) us fs)
-tree-pop a ts (in-call f es ∷ fs) = pick (same (next ts) t-comma) (tree-going at-begin (tail1 ts) (in-call f (a ∷ es) ∷ fs)) (tree-eats t-rp ts (λ r us. tree-going (at-value 7 (e-call f (put-all es (and-then a no)) (r .to))) us fs))
-tree-pop a ts (in-bound n x ∷ fs) = tree-eats k-in ts (λ i us. tree-going at-begin us (in-body n x a ∷ fs))
-tree-pop b ts (in-body n x a ∷ fs) = tree-going (at-value 0 (e-let n x a b)) ts fs
-tree-pop a ts (in-cond n ∷ fs) = tree-eats k-then ts (λ i us. tree-going at-begin us (in-then n a ∷ fs))
-tree-pop b ts (in-then n a ∷ fs) = tree-eats k-else ts (λ i us. tree-going at-begin us (in-else n a b ∷ fs))
-tree-pop c ts (in-else n a b ∷ fs) = tree-going (at-value 0 (e-if n a b c)) ts fs
-tree-pop b ts (right-of o a ∷ fs) = tree-going (at-value (made (lev o)) (e-op o a b)) ts fs
+abbrev pub tree_pop : E → List Tok → List TreeFrame → TreeState
+tree_pop a ts [] = tree_won a ts
+tree_pop a ts (in_par n ∷ fs) = tree_eats t_rp ts (λ r us. tree_going (at_value 7 (e_par n a r.to)) us fs)
+tree_pop a ts (in_call f es ∷ fs) = pick (same (next ts) t_comma) (tree_going at_begin (tail1 ts) (in_call f (a ∷ es) ∷ fs)) (tree_eats t_rp ts (λ r us. tree_going (at_value 7 (e_call f (put_all es (and_then a no)) r.to)) us fs))
+tree_pop a ts (in_bound n x ∷ fs) = tree_eats k_in ts (λ i us. tree_going at_begin us (in_body n x a ∷ fs))
+tree_pop b ts (in_body n x a ∷ fs) = tree_going (at_value 0 (e_let n x a b)) ts fs
+tree_pop a ts (in_cond n ∷ fs) = tree_eats k_then ts (λ i us. tree_going at_begin us (in_then n a ∷ fs))
+tree_pop b ts (in_then n a ∷ fs) = tree_eats k_else ts (λ i us. tree_going at_begin us (in_else n a b ∷ fs))
+tree_pop c ts (in_else n a b ∷ fs) = tree_going (at_value 0 (e_if n a b c)) ts fs
+tree_pop b ts (right_of o a ∷ fs) = tree_going (at_value (made (lev o)) (e_op o a b)) ts fs
 
-abbrev pub tree-dot : E → List Tok → List Tree-Frame → Tree-State
-tree-dot a ts fs = pick (same (next ts) t-dot) (tree-word is-name (tail1 ts) (λ x us. tree-going (at-value 7 (e-field a x)) us fs)) (tree-going (at-value 6 a) ts fs)
+abbrev pub tree_dot : E → List Tok → List TreeFrame → TreeState
+tree_dot a ts fs = pick (same (next ts) t_dot) (tree_word is_name (tail1 ts) (λ x us. tree_going (at_value 7 (e_field a x)) us fs)) (tree_going (at_value 6 a) ts fs)
 
-abbrev pub tree-op : ℕ → E → List Tok → List Tree-Frame → Tree-State
-tree-op j a ts fs = opt (op-any j (next ts)) (tree-going (at-value j a) ts fs) (λ o. tree-going at-atom (tail1 ts) (right-of o a ∷ fs))
+abbrev pub tree_op : ℕ → E → List Tok → List TreeFrame → TreeState
+tree_op j a ts fs = opt (op_any j (next ts)) (tree_going (at_value j a) ts fs) (λ o. tree_going at_atom (tail1 ts) (right_of o a ∷ fs))
 
-abbrev pub tree-value : ℕ → E → List Tok → List Tree-Frame → Tree-State
-tree-value zero a ts fs = tree-pop a ts fs
-tree-value (suc j) a ts fs = pick (leb (suc j) (tree-base fs)) (tree-pop a ts fs) (pick (eqb j 6) (tree-dot a ts fs) (tree-op j a ts fs))
+abbrev pub tree_value : ℕ → E → List Tok → List TreeFrame → TreeState
+tree_value zero a ts fs = tree_pop a ts fs
+tree_value (suc j) a ts fs = pick (leb (suc j) (tree_base fs)) (tree_pop a ts fs) (pick (eqb j 6) (tree_dot a ts fs) (tree_op j a ts fs))
 
-abbrev pub tree-step : Tree-State → Tree-State
-tree-step (tree-going at-begin ts fs) = tree-begin ts fs
-tree-step (tree-going at-atom ts fs) = tree-atom ts fs
-tree-step (tree-going (at-value l a) ts fs) = tree-value l a ts fs
-tree-step (tree-won a ts) = tree-won a ts
-tree-step (tree-lost ts) = tree-lost ts
+abbrev pub tree_step : TreeState → TreeState
+tree_step (tree_going at_begin ts fs) = tree_begin ts fs
+tree_step (tree_going at_atom ts fs) = tree_atom ts fs
+tree_step (tree_going (at_value l a) ts fs) = tree_value l a ts fs
+tree_step (tree_won a ts) = tree_won a ts
+tree_step (tree_lost ts) = tree_lost ts
 
 -- from a result of level l to one of level b
 abbrev pub rise : ℕ → ℕ → Got E → Got E
 rise b zero g = g
-rise b (suc j) g = pick (leb (suc j) b) g (rise b j (with1 g (next-level j)))
+rise b (suc j) g = pick (leb (suc j) b) g (rise b j (with1 g (next_level j)))
 
 -- what frames come to, given what they wait for
-abbrev pub unwind : List Tree-Frame → Got E → Got E
+abbrev pub unwind : List TreeFrame → Got E → Got E
 unwind [] g = g
-unwind (in-par n ∷ fs) g = unwind fs (rise (tree-base fs) 7 (with1 g (λ a us. eat t-rp us (λ r vs. it (e-par n a (r .to)) vs))))
-unwind (in-call f es ∷ fs) g = unwind fs (rise (tree-base fs) 7 (with1 g (λ a us. pick (same (next us) t-comma) (an-args f (tail1 us) (λ xs. put-all es (and-then a xs))) (eat t-rp us (λ r vs. it (e-call f (put-all es (and-then a no)) (r .to)) vs)))))
-unwind (in-bound n x ∷ fs) g = unwind fs (with1 g (λ a ys. eat k-in ys (λ i zs. with1 (an-expr zs) (λ b rs. it (e-let n x a b) rs))))
-unwind (in-body n x a ∷ fs) g = unwind fs (with1 g (λ b rs. it (e-let n x a b) rs))
-unwind (in-cond n ∷ fs) g = unwind fs (with1 g (λ a vs. eat k-then vs (λ h xs. with1 (an-expr xs) (λ b ys. eat k-else ys (λ e zs. with1 (an-expr zs) (λ c rs. it (e-if n a b c) rs))))))
-unwind (in-then n a ∷ fs) g = unwind fs (with1 g (λ b ys. eat k-else ys (λ e zs. with1 (an-expr zs) (λ c rs. it (e-if n a b c) rs))))
-unwind (in-else n a b ∷ fs) g = unwind fs (with1 g (λ c rs. it (e-if n a b c) rs))
-unwind (right-of o a ∷ fs) g = unwind fs (rise (tree-base fs) (made (lev o)) (with1 g (λ b us. it (e-op o a b) us)))
+unwind (in_par n ∷ fs) g = unwind fs (rise (tree_base fs) 7 (with1 g (λ a us. eat t_rp us (λ r vs. it (e_par n a r.to) vs))))
+unwind (in_call f es ∷ fs) g = unwind fs (rise (tree_base fs) 7 (with1 g (λ a us. pick (same (next us) t_comma) (an_args f (tail1 us) (λ xs. put_all es (and_then a xs))) (eat t_rp us (λ r vs. it (e_call f (put_all es (and_then a no)) r.to) vs)))))
+unwind (in_bound n x ∷ fs) g = unwind fs (with1 g (λ a ys. eat k_in ys (λ i zs. with1 (an_expr zs) (λ b rs. it (e_let n x a b) rs))))
+unwind (in_body n x a ∷ fs) g = unwind fs (with1 g (λ b rs. it (e_let n x a b) rs))
+unwind (in_cond n ∷ fs) g = unwind fs (with1 g (λ a vs. eat k_then vs (λ h xs. with1 (an_expr xs) (λ b ys. eat k_else ys (λ e zs. with1 (an_expr zs) (λ c rs. it (e_if n a b c) rs))))))
+unwind (in_then n a ∷ fs) g = unwind fs (with1 g (λ b ys. eat k_else ys (λ e zs. with1 (an_expr zs) (λ c rs. it (e_if n a b c) rs))))
+unwind (in_else n a b ∷ fs) g = unwind fs (with1 g (λ c rs. it (e_if n a b c) rs))
+unwind (right_of o a ∷ fs) g = unwind fs (rise (tree_base fs) (made (lev o)) (with1 g (λ b us. it (e_op o a b) us)))
 
-abbrev pub mean : Tree-State → Got E
-mean (tree-going at-begin ts fs) = unwind fs (an-expr ts)
-mean (tree-going at-atom ts fs) = unwind fs (rise (tree-base fs) 7 (an-atom ts))
-mean (tree-going (at-value l a) ts fs) = unwind fs (rise (tree-base fs) l (it a ts))
-mean (tree-won a ts) = it a ts
-mean (tree-lost ts) = bad ts
+abbrev pub mean : TreeState → Got E
+mean (tree_going at_begin ts fs) = unwind fs (an_expr ts)
+mean (tree_going at_atom ts fs) = unwind fs (rise (tree_base fs) 7 (an_atom ts))
+mean (tree_going (at_value l a) ts fs) = unwind fs (rise (tree_base fs) l (it a ts))
+mean (tree_won a ts) = it a ts
+mean (tree_lost ts) = bad ts
 
-abbrev pub Fine : Tree-State → Type 0
-Fine (tree-going at-begin ts fs) = tree-base fs ≡ 1
-Fine (tree-going at-atom ts fs) = Unit {0}
-Fine (tree-going (at-value l a) ts fs) = l ≤ 7
-Fine (tree-won a ts) = Unit {0}
-Fine (tree-lost ts) = Unit {0}
+abbrev pub Fine : TreeState → Type 0
+Fine (tree_going at_begin ts fs) = tree_base fs ≡ 1
+Fine (tree_going at_atom ts fs) = Unit {0}
+Fine (tree_going (at_value l a) ts fs) = l ≤ 7
+Fine (tree_won a ts) = Unit {0}
+Fine (tree_lost ts) = Unit {0}
 
-rise-bad : (b l : ℕ) (us : List Tok) → rise b l (bad us) ≡ bad us
-rise-bad b zero us = refl
-rise-bad b (suc j) us = go (leb (suc j) b) (rise-bad b j us)
+rise_bad : (b l : ℕ) (us : List Tok) → rise b l (bad us) ≡ bad us
+rise_bad b zero us = refl
+rise_bad b (suc j) us = go (leb (suc j) b) (rise_bad b j us)
   where
     go : (t : Bool) → rise b j (bad us) ≡ bad us → pick t (bad us) (rise b j (bad us)) ≡ bad us
     go true e = refl
     go false e = e
 
-unwind-bad : (fs : List Tree-Frame) (us : List Tok) → unwind fs (bad us) ≡ bad us
-unwind-bad [] us = refl
-unwind-bad (in-par n ∷ fs) us = ap (unwind fs) (rise-bad (tree-base fs) 7 us) ∙ unwind-bad fs us
-unwind-bad (in-call f es ∷ fs) us = ap (unwind fs) (rise-bad (tree-base fs) 7 us) ∙ unwind-bad fs us
-unwind-bad (in-bound n x ∷ fs) us = unwind-bad fs us
-unwind-bad (in-body n x a ∷ fs) us = unwind-bad fs us
-unwind-bad (in-cond n ∷ fs) us = unwind-bad fs us
-unwind-bad (in-then n a ∷ fs) us = unwind-bad fs us
-unwind-bad (in-else n a b ∷ fs) us = unwind-bad fs us
-unwind-bad (right-of o a ∷ fs) us = ap (unwind fs) (rise-bad (tree-base fs) (made (lev o)) us) ∙ unwind-bad fs us
+unwind_bad : (fs : List TreeFrame) (us : List Tok) → unwind fs (bad us) ≡ bad us
+unwind_bad [] us = refl
+unwind_bad (in_par n ∷ fs) us = ap (unwind fs) (rise_bad (tree_base fs) 7 us) ∙ unwind_bad fs us
+unwind_bad (in_call f es ∷ fs) us = ap (unwind fs) (rise_bad (tree_base fs) 7 us) ∙ unwind_bad fs us
+unwind_bad (in_bound n x ∷ fs) us = unwind_bad fs us
+unwind_bad (in_body n x a ∷ fs) us = unwind_bad fs us
+unwind_bad (in_cond n ∷ fs) us = unwind_bad fs us
+unwind_bad (in_then n a ∷ fs) us = unwind_bad fs us
+unwind_bad (in_else n a b ∷ fs) us = unwind_bad fs us
+unwind_bad (right_of o a ∷ fs) us = ap (unwind fs) (rise_bad (tree_base fs) (made (lev o)) us) ∙ unwind_bad fs us
 
-both-bad : (fs : List Tree-Frame) (l : ℕ) (us : List Tok) → unwind fs (rise (tree-base fs) l (bad us)) ≡ bad us
-both-bad fs l us = ap (unwind fs) (rise-bad (tree-base fs) l us) ∙ unwind-bad fs us
+both_bad : (fs : List TreeFrame) (l : ℕ) (us : List Tok) → unwind fs (rise (tree_base fs) l (bad us)) ≡ bad us
+both_bad fs l us = ap (unwind fs) (rise_bad (tree_base fs) l us) ∙ unwind_bad fs us
 
-m-eat : {C : Type 0} (K : Got C → Got E) (w : Word) (ts : List Tok) (F : Tok → List Tok → Tree-State) (f : Tok → List Tok → Got C) → ((us : List Tok) → K (bad us) ≡ bad us) → ((t : Tok) (us : List Tok) → mean (F t us) ≡ K (f t us)) → mean (tree-eats w ts F) ≡ K (eat w ts f)
-m-eat K w [] F f b e = sym (b [])
-m-eat K w (t ∷ ts) F f b e = go (same (t .w) w) (b (t ∷ ts)) (e t ts)
+m_eat : {C : Type 0} (K : Got C → Got E) (w : Word) (ts : List Tok) (F : Tok → List Tok → TreeState) (f : Tok → List Tok → Got C) → ((us : List Tok) → K (bad us) ≡ bad us) → ((t : Tok) (us : List Tok) → mean (F t us) ≡ K (f t us)) → mean (tree_eats w ts F) ≡ K (eat w ts f)
+m_eat K w [] F f b e = sym (b [])
+m_eat K w (t ∷ ts) F f b e = go (same t.w w) (b (t ∷ ts)) (e t ts)
   where
-    go : (x : Bool) → K (bad (t ∷ ts)) ≡ bad (t ∷ ts) → mean (F t ts) ≡ K (f t ts) → mean (pick x (F t ts) (tree-lost (t ∷ ts))) ≡ K (pick x (f t ts) (bad (t ∷ ts)))
+    go : (x : Bool) → K (bad (t ∷ ts)) ≡ bad (t ∷ ts) → mean (F t ts) ≡ K (f t ts) → mean (pick x (F t ts) (tree_lost (t ∷ ts))) ≡ K (pick x (f t ts) (bad (t ∷ ts)))
     go true b e = e
     go false b e = sym b
 
-m-word : (K : Got Tok → Got E) (ok : Word → Bool) (ts : List Tok) (F : Tok → List Tok → Tree-State) → ((us : List Tok) → K (bad us) ≡ bad us) → ((t : Tok) (us : List Tok) → mean (F t us) ≡ K (it t us)) → mean (tree-word ok ts F) ≡ K (a-word ok ts)
-m-word K ok [] F b e = sym (b [])
-m-word K ok (t ∷ ts) F b e = go (ok (t .w)) (b (t ∷ ts)) (e t ts)
+m_word : (K : Got Tok → Got E) (ok : Word → Bool) (ts : List Tok) (F : Tok → List Tok → TreeState) → ((us : List Tok) → K (bad us) ≡ bad us) → ((t : Tok) (us : List Tok) → mean (F t us) ≡ K (it t us)) → mean (tree_word ok ts F) ≡ K (a_word ok ts)
+m_word K ok [] F b e = sym (b [])
+m_word K ok (t ∷ ts) F b e = go (ok t.w) (b (t ∷ ts)) (e t ts)
   where
-    go : (x : Bool) → K (bad (t ∷ ts)) ≡ bad (t ∷ ts) → mean (F t ts) ≡ K (it t ts) → mean (pick x (F t ts) (tree-lost (t ∷ ts))) ≡ K (pick x (it t ts) (bad (t ∷ ts)))
+    go : (x : Bool) → K (bad (t ∷ ts)) ≡ bad (t ∷ ts) → mean (F t ts) ≡ K (it t ts) → mean (pick x (F t ts) (tree_lost (t ∷ ts))) ≡ K (pick x (it t ts) (bad (t ∷ ts)))
     go true b e = e
     go false b e = sym b
 
-m-pick : {C : Type 0} (K : C → Got E) (b : Bool) (X Y : Tree-State) (x y : C) → (b ≡ true → mean X ≡ K x) → (b ≡ false → mean Y ≡ K y) → mean (pick b X Y) ≡ K (pick b x y)
-m-pick K true X Y x y p q = p refl
-m-pick K false X Y x y p q = q refl
+m_pick : {C : Type 0} (K : C → Got E) (b : Bool) (X Y : TreeState) (x y : C) → (b ≡ true → mean X ≡ K x) → (b ≡ false → mean Y ≡ K y) → mean (pick b X Y) ≡ K (pick b x y)
+m_pick K true X Y x y p q = p refl
+m_pick K false X Y x y p q = q refl
 
-pub level-rise : (l b : ℕ) (ts : List Tok) → 1 ≤ b → b ≤ l → l ≤ 7 → rise b l (a-level l ts) ≡ a-level b ts
-level-rise zero b ts h1 h2 h3 = absurd (omega arith)
-level-rise (suc j) b ts h1 h2 h3 = go (leb (suc j) b) refl (λ h. level-rise j b ts h1 h (omega arith))
+pub level_rise : (l b : ℕ) (ts : List Tok) → 1 ≤ b → b ≤ l → l ≤ 7 → rise b l (a_level l ts) ≡ a_level b ts
+level_rise zero b ts h1 h2 h3 = absurd (omega arith)
+level_rise (suc j) b ts h1 h2 h3 = go (leb (suc j) b) refl (λ h. level_rise j b ts h1 h (omega arith))
   where
-    go : (t : Bool) → leb (suc j) b ≡ t → (b ≤ j → rise b j (a-level j ts) ≡ a-level b ts) → pick t (a-level (suc j) ts) (rise b j (with1 (a-level (suc j) ts) (next-level j))) ≡ a-level b ts
-    go true p ih = let q = leb-true (suc j) b p in let e : suc j ≡ b = omega arith in ap (λ k. a-level k ts) e
-    go false p ih = let q = leb-false (suc j) b p in ap (rise b j) (sym (level-step j ts (omega arith) (omega arith))) ∙ ih (omega arith)
+    go : (t : Bool) → leb (suc j) b ≡ t → (b ≤ j → rise b j (a_level j ts) ≡ a_level b ts) → pick t (a_level (suc j) ts) (rise b j (with1 (a_level (suc j) ts) (next_level j))) ≡ a_level b ts
+    go true p ih = let q = leb-true (suc j) b p in let e : suc j ≡ b = omega arith in ap (λ k. a_level k ts) e
+    go false p ih = let q = leb-false (suc j) b p in ap (rise b j) (sym (level_step j ts (omega arith) (omega arith))) ∙ ih (omega arith)
 
-atom-rise : (b : ℕ) (ts : List Tok) → 1 ≤ b → b ≤ 7 → rise b 7 (an-atom ts) ≡ a-level b ts
-atom-rise b ts h1 h2 = ap (rise b 7) (sym (level-last ts)) ∙ level-rise 7 b ts h1 h2 (omega arith)
+atom_rise : (b : ℕ) (ts : List Tok) → 1 ≤ b → b ≤ 7 → rise b 7 (an_atom ts) ≡ a_level b ts
+atom_rise b ts h1 h2 = ap (rise b 7) (sym (level_last ts)) ∙ level_rise 7 b ts h1 h2 (omega arith)
 
 -- each step keeps what it will come to
-pop-mean : (a : E) (ts : List Tok) (fs : List Tree-Frame) → mean (tree-pop a ts fs) ≡ unwind fs (it a ts)
-pop-mean a ts [] = refl
-pop-mean a ts (in-par n ∷ fs) = m-eat (λ g. unwind fs (rise (tree-base fs) 7 g)) t-rp ts _ (λ r vs. it (e-par n a (r .to)) vs) (both-bad fs 7) (λ r us. refl)
-pop-mean a ts (in-call f es ∷ fs) = m-pick (λ g. unwind fs (rise (tree-base fs) 7 g)) (same (next ts) t-comma) _ _ _ _
-    (λ p. ap (λ g. unwind fs (rise (tree-base fs) 7 g)) (sym (args-eq f (tail1 ts) (λ xs. put-all es (and-then a xs)))))
-    (λ p. m-eat (λ g. unwind fs (rise (tree-base fs) 7 g)) t-rp ts _ (λ r vs. it (e-call f (put-all es (and-then a no)) (r .to)) vs) (both-bad fs 7) (λ r us. refl))
-pop-mean a ts (in-bound n x ∷ fs) = m-eat (unwind fs) k-in ts _ (λ i zs. with1 (an-expr zs) (λ b rs. it (e-let n x a b) rs)) (unwind-bad fs) (λ r us. refl)
-pop-mean b ts (in-body n x a ∷ fs) = refl
-pop-mean a ts (in-cond n ∷ fs) = m-eat (unwind fs) k-then ts _ (λ h xs. with1 (an-expr xs) (λ b ys. eat k-else ys (λ e zs. with1 (an-expr zs) (λ c rs. it (e-if n a b c) rs)))) (unwind-bad fs) (λ r us. refl)
-pop-mean b ts (in-then n a ∷ fs) = m-eat (unwind fs) k-else ts _ (λ e zs. with1 (an-expr zs) (λ c rs. it (e-if n a b c) rs)) (unwind-bad fs) (λ r us. refl)
-pop-mean c ts (in-else n a b ∷ fs) = refl
-pop-mean b ts (right-of o a ∷ fs) = refl
+pop_mean : (a : E) (ts : List Tok) (fs : List TreeFrame) → mean (tree_pop a ts fs) ≡ unwind fs (it a ts)
+pop_mean a ts [] = refl
+pop_mean a ts (in_par n ∷ fs) = m_eat (λ g. unwind fs (rise (tree_base fs) 7 g)) t_rp ts _ (λ r vs. it (e_par n a r.to) vs) (both_bad fs 7) (λ r us. refl)
+pop_mean a ts (in_call f es ∷ fs) = m_pick (λ g. unwind fs (rise (tree_base fs) 7 g)) (same (next ts) t_comma) _ _ _ _
+    (λ p. ap (λ g. unwind fs (rise (tree_base fs) 7 g)) (sym (args_eq f (tail1 ts) (λ xs. put_all es (and_then a xs)))))
+    (λ p. m_eat (λ g. unwind fs (rise (tree_base fs) 7 g)) t_rp ts _ (λ r vs. it (e_call f (put_all es (and_then a no)) r.to) vs) (both_bad fs 7) (λ r us. refl))
+pop_mean a ts (in_bound n x ∷ fs) = m_eat (unwind fs) k_in ts _ (λ i zs. with1 (an_expr zs) (λ b rs. it (e_let n x a b) rs)) (unwind_bad fs) (λ r us. refl)
+pop_mean b ts (in_body n x a ∷ fs) = refl
+pop_mean a ts (in_cond n ∷ fs) = m_eat (unwind fs) k_then ts _ (λ h xs. with1 (an_expr xs) (λ b ys. eat k_else ys (λ e zs. with1 (an_expr zs) (λ c rs. it (e_if n a b c) rs)))) (unwind_bad fs) (λ r us. refl)
+pop_mean b ts (in_then n a ∷ fs) = m_eat (unwind fs) k_else ts _ (λ e zs. with1 (an_expr zs) (λ c rs. it (e_if n a b c) rs)) (unwind_bad fs) (λ r us. refl)
+pop_mean c ts (in_else n a b ∷ fs) = refl
+pop_mean b ts (right_of o a ∷ fs) = refl
 
-begin-mean : (ts : List Tok) (fs : List Tree-Frame) → tree-base fs ≡ 1 → mean (tree-begin ts fs) ≡ unwind fs (an-expr ts)
-begin-mean ts fs e = m-pick (unwind fs) (same (next ts) k-let) _ _ (a-let ts) (pick (same (next ts) k-if) (an-if ts) (a-level 1 ts))
-    (λ p. m-eat (unwind fs) k-let ts _ (λ l us. with1 (a-word is-name us) (λ x vs. eat t-gets vs (λ g xs. with1 (an-expr xs) (λ a ys. eat k-in ys (λ i zs. with1 (an-expr zs) (λ b rs. it (e-let (l .from) x a b) rs)))))) (unwind-bad fs) (λ l us.
-    m-word (λ q. unwind fs (with1 q (λ x vs. eat t-gets vs (λ g xs. with1 (an-expr xs) (λ a ys. eat k-in ys (λ i zs. with1 (an-expr zs) (λ b rs. it (e-let (l .from) x a b) rs))))))) is-name us _ (unwind-bad fs) (λ x vs.
-    m-eat (unwind fs) t-gets vs _ (λ g xs. with1 (an-expr xs) (λ a ys. eat k-in ys (λ i zs. with1 (an-expr zs) (λ b rs. it (e-let (l .from) x a b) rs)))) (unwind-bad fs) (λ g xs. refl)))
-    ∙ ap (unwind fs) (sym (let-eq ts)))
-    (λ p. m-pick (unwind fs) (same (next ts) k-if) _ _ (an-if ts) (a-level 1 ts)
-    (λ q. m-eat (unwind fs) k-if ts _ (λ l us. with1 (an-expr us) (λ a vs. eat k-then vs (λ h xs. with1 (an-expr xs) (λ b ys. eat k-else ys (λ e zs. with1 (an-expr zs) (λ c rs. it (e-if (l .from) a b c) rs)))))) (unwind-bad fs) (λ l us. refl) ∙ ap (unwind fs) (sym (if-eq ts)))
-    (λ q. ap (λ b. unwind fs (rise b 7 (an-atom ts))) e ∙ ap (unwind fs) (atom-rise 1 ts (omega arith) (omega arith))))
-    ∙ ap (unwind fs) (sym (expr-eq ts))
+begin_mean : (ts : List Tok) (fs : List TreeFrame) → tree_base fs ≡ 1 → mean (tree_begin ts fs) ≡ unwind fs (an_expr ts)
+begin_mean ts fs e = m_pick (unwind fs) (same (next ts) k_let) _ _ (a_let ts) (pick (same (next ts) k_if) (an_if ts) (a_level 1 ts))
+    (λ p. m_eat (unwind fs) k_let ts _ (λ l us. with1 (a_word is_name us) (λ x vs. eat t_gets vs (λ g xs. with1 (an_expr xs) (λ a ys. eat k_in ys (λ i zs. with1 (an_expr zs) (λ b rs. it (e_let l.from x a b) rs)))))) (unwind_bad fs) (λ l us.
+    m_word (λ q. unwind fs (with1 q (λ x vs. eat t_gets vs (λ g xs. with1 (an_expr xs) (λ a ys. eat k_in ys (λ i zs. with1 (an_expr zs) (λ b rs. it (e_let l.from x a b) rs))))))) is_name us _ (unwind_bad fs) (λ x vs.
+    m_eat (unwind fs) t_gets vs _ (λ g xs. with1 (an_expr xs) (λ a ys. eat k_in ys (λ i zs. with1 (an_expr zs) (λ b rs. it (e_let l.from x a b) rs)))) (unwind_bad fs) (λ g xs. refl)))
+    ∙ ap (unwind fs) (sym (let_eq ts)))
+    (λ p. m_pick (unwind fs) (same (next ts) k_if) _ _ (an_if ts) (a_level 1 ts)
+    (λ q. m_eat (unwind fs) k_if ts _ (λ l us. with1 (an_expr us) (λ a vs. eat k_then vs (λ h xs. with1 (an_expr xs) (λ b ys. eat k_else ys (λ e zs. with1 (an_expr zs) (λ c rs. it (e_if l.from a b c) rs)))))) (unwind_bad fs) (λ l us. refl) ∙ ap (unwind fs) (sym (if_eq ts)))
+    (λ q. ap (λ b. unwind fs (rise b 7 (an_atom ts))) e ∙ ap (unwind fs) (atom_rise 1 ts (omega arith) (omega arith))))
+    ∙ ap (unwind fs) (sym (expr_eq ts))
 
-call-mean : (f : Tok) (ts : List Tok) (fs : List Tree-Frame) → mean (tree-call f ts fs) ≡ unwind fs (rise (tree-base fs) 7 (a-call f ts))
-call-mean f ts fs = let K : Got E → Got E = λ g. unwind fs (rise (tree-base fs) 7 g) in
-    m-pick K (same (next ts) t-rp) _ _ (eat t-rp ts (λ r us. it (e-call f no (r .to)) us)) (an-args f ts (λ es. es))
-    (λ p. m-eat K t-rp ts _ (λ r us. it (e-call f no (r .to)) us) (both-bad fs 7) (λ r us. refl))
-    (λ p. ap K (sym (args-eq f ts (λ es. es))))
-    ∙ ap K (sym (call-eq f ts))
+call_mean : (f : Tok) (ts : List Tok) (fs : List TreeFrame) → mean (tree_call f ts fs) ≡ unwind fs (rise (tree_base fs) 7 (a_call f ts))
+call_mean f ts fs = let K : Got E → Got E = λ g. unwind fs (rise (tree_base fs) 7 g) in
+    m_pick K (same (next ts) t_rp) _ _ (eat t_rp ts (λ r us. it (e_call f no r.to) us)) (an_args f ts (λ es. es))
+    (λ p. m_eat K t_rp ts _ (λ r us. it (e_call f no r.to) us) (both_bad fs 7) (λ r us. refl))
+    (λ p. ap K (sym (args_eq f ts (λ es. es))))
+    ∙ ap K (sym (call_eq f ts))
 
-atom-mean : (ts : List Tok) (fs : List Tree-Frame) → mean (tree-atom ts fs) ≡ unwind fs (rise (tree-base fs) 7 (an-atom ts))
-atom-mean [] fs = sym (both-bad fs 7 []) ∙ ap (λ g. unwind fs (rise (tree-base fs) 7 g)) (sym (atom-eq []))
-atom-mean (t ∷ ts) fs = let K : Got E → Got E = λ g. unwind fs (rise (tree-base fs) 7 g) in
-    m-pick K (same (t .w) t-lp) _ _ _ _ (λ p. refl) (λ p.
-    m-pick K (is-number (t .w)) _ _ _ _ (λ q. m-pick K (digits (t .w)) _ _ _ _ (λ r. refl) (λ r. sym (both-bad fs 7 (t ∷ ts)))) (λ q.
-    m-pick K (is-name (t .w)) _ _ _ _ (λ r. m-pick K (same (next ts) t-lp) _ _ _ _ (λ s. call-mean t (tail1 ts) fs) (λ s. refl)) (λ r. sym (both-bad fs 7 (t ∷ ts)))))
-    ∙ ap K (sym (atom-eq (t ∷ ts)))
+atom_mean : (ts : List Tok) (fs : List TreeFrame) → mean (tree_atom ts fs) ≡ unwind fs (rise (tree_base fs) 7 (an_atom ts))
+atom_mean [] fs = sym (both_bad fs 7 []) ∙ ap (λ g. unwind fs (rise (tree_base fs) 7 g)) (sym (atom_eq []))
+atom_mean (t ∷ ts) fs = let K : Got E → Got E = λ g. unwind fs (rise (tree_base fs) 7 g) in
+    m_pick K (same t.w t_lp) _ _ _ _ (λ p. refl) (λ p.
+    m_pick K (is_number t.w) _ _ _ _ (λ q. m_pick K (digits t.w) _ _ _ _ (λ r. refl) (λ r. sym (both_bad fs 7 (t ∷ ts)))) (λ q.
+    m_pick K (is_name t.w) _ _ _ _ (λ r. m_pick K (same (next ts) t_lp) _ _ _ _ (λ s. call_mean t (tail1 ts) fs) (λ s. refl)) (λ r. sym (both_bad fs 7 (t ∷ ts)))))
+    ∙ ap K (sym (atom_eq (t ∷ ts)))
 
-with-with : (g : Got E) (o : ℕ) (a : E) (h : E → List Tok → Got E) → with1 (with1 g (λ c vs. it (e-op o a c) vs)) h ≡ with1 g (λ c vs. h (e-op o a c) vs)
-with-with (it c vs) o a h = refl
-with-with (bad vs) o a h = refl
+with_with : (g : Got E) (o : ℕ) (a : E) (h : E → List Tok → Got E) → with1 (with1 g (λ c vs. it (e_op o a c) vs)) h ≡ with1 g (λ c vs. h (e_op o a c) vs)
+with_with (it c vs) o a h = refl
+with_with (bad vs) o a h = refl
 
-rise-made : (b j : ℕ) (g : Got E) (o : ℕ) (a : E) → b ≤ j → rise b (made j) (with1 g (λ c vs. it (e-op o a c) vs)) ≡ rise b j (with1 g (λ c vs. after j (e-op o a c) vs))
-rise-made b j g o a h = go (eqb j 3) refl
+rise_made : (b j : ℕ) (g : Got E) (o : ℕ) (a : E) → b ≤ j → rise b (made j) (with1 g (λ c vs. it (e_op o a c) vs)) ≡ rise b j (with1 g (λ c vs. after j (e_op o a c) vs))
+rise_made b j g o a h = go (eqb j 3) refl
   where
-    go : (t : Bool) → eqb j 3 ≡ t → rise b (pick t 3 (suc j)) (with1 g (λ c vs. it (e-op o a c) vs)) ≡ rise b j (with1 g (λ c vs. pick t (it (e-op o a c) vs) (next-level j (e-op o a c) vs)))
-    go true p = ap (λ k. rise b k (with1 g (λ c vs. it (e-op o a c) vs))) (sym (eqb-true j 3 p))
-    go false p = ap (λ t. pick t (with1 g (λ c vs. it (e-op o a c) vs)) (rise b j (with1 (with1 g (λ c vs. it (e-op o a c) vs)) (next-level j)))) (lt-leb (suc j) b (omega arith)) ∙ ap (rise b j) (with-with g o a (next-level j))
+    go : (t : Bool) → eqb j 3 ≡ t → rise b (pick t 3 (suc j)) (with1 g (λ c vs. it (e_op o a c) vs)) ≡ rise b j (with1 g (λ c vs. pick t (it (e_op o a c) vs) (next_level j (e_op o a c) vs)))
+    go true p = ap (λ k. rise b k (with1 g (λ c vs. it (e_op o a c) vs))) (sym (eqb-true j 3 p))
+    go false p = ap (λ t. pick t (with1 g (λ c vs. it (e_op o a c) vs)) (rise b j (with1 (with1 g (λ c vs. it (e_op o a c) vs)) (next_level j)))) (lt-leb (suc j) b (omega arith)) ∙ ap (rise b j) (with_with g o a (next_level j))
 
-op-mean : (j : ℕ) (a : E) (ts : List Tok) (fs : List Tree-Frame) → j ≤ 5 → tree-base fs ≤ j → mean (tree-op j a ts fs) ≡ unwind fs (rise (tree-base fs) j (next-level j a ts))
-op-mean j a ts fs j5 h = go (op-any j (next ts)) (op-level j (next ts)) ∙ ap (λ g. unwind fs (rise (tree-base fs) j g)) (sym (next-eq j a ts j5))
+op_mean : (j : ℕ) (a : E) (ts : List Tok) (fs : List TreeFrame) → j ≤ 5 → tree_base fs ≤ j → mean (tree_op j a ts fs) ≡ unwind fs (rise (tree_base fs) j (next_level j a ts))
+op_mean j a ts fs j5 h = go (op_any j (next ts)) (op_level j (next ts)) ∙ ap (λ g. unwind fs (rise (tree_base fs) j g)) (sym (next_eq j a ts j5))
   where
-    go : (q : Option ℕ) → At-level j q → mean (opt q (tree-going (at-value j a) ts fs) (λ o. tree-going at-atom (tail1 ts) (right-of o a ∷ fs))) ≡ unwind fs (rise (tree-base fs) j (opt q (it a ts) (λ o. with1 (a-level (suc j) (tail1 ts)) (λ b vs. after j (e-op o a b) vs))))
+    go : (q : Option ℕ) → AtLevel j q → mean (opt q (tree_going (at_value j a) ts fs) (λ o. tree_going at_atom (tail1 ts) (right_of o a ∷ fs))) ≡ unwind fs (rise (tree_base fs) j (opt q (it a ts) (λ o. with1 (a_level (suc j) (tail1 ts)) (λ b vs. after j (e_op o a b) vs))))
     go none e = refl
     go (some o) e =
-        ap (λ g. unwind fs (rise (tree-base fs) (made (lev o)) (with1 g (λ b vs. it (e-op o a b) vs)))) (atom-rise (suc (lev o)) (tail1 ts) (omega arith) (omega (arith, lev-in o))) ∙
-        ap (λ i. unwind fs (rise (tree-base fs) (made i) (with1 (a-level (suc i) (tail1 ts)) (λ b vs. it (e-op o a b) vs)))) e ∙
-        ap (unwind fs) (rise-made (tree-base fs) j (a-level (suc j) (tail1 ts)) o a h)
+        ap (λ g. unwind fs (rise (tree_base fs) (made (lev o)) (with1 g (λ b vs. it (e_op o a b) vs)))) (atom_rise (suc (lev o)) (tail1 ts) (omega arith) (omega (arith, lev_in o))) ∙
+        ap (λ i. unwind fs (rise (tree_base fs) (made i) (with1 (a_level (suc i) (tail1 ts)) (λ b vs. it (e_op o a b) vs)))) e ∙
+        ap (unwind fs) (rise_made (tree_base fs) j (a_level (suc j) (tail1 ts)) o a h)
 
-dot-mean : (a : E) (ts : List Tok) (fs : List Tree-Frame) → tree-base fs ≤ 6 → mean (tree-dot a ts fs) ≡ unwind fs (rise (tree-base fs) 6 (a-fields a ts))
-dot-mean a ts fs h = let K : Got E → Got E = λ g. unwind fs (rise (tree-base fs) 6 g) in
-    m-pick K (same (next ts) t-dot) _ _ (with1 (a-word is-name (tail1 ts)) (λ x us. a-fields (e-field a x) us)) (it a ts)
-    (λ p. m-word (λ g. K (with1 g (λ x us. a-fields (e-field a x) us))) is-name (tail1 ts) _ (both-bad fs 6) (λ x us. ap (λ t. unwind fs (pick t (it (e-field a x) us) (rise (tree-base fs) 6 (a-fields (e-field a x) us)))) (lt-leb 7 (tree-base fs) (omega arith))))
+dot_mean : (a : E) (ts : List Tok) (fs : List TreeFrame) → tree_base fs ≤ 6 → mean (tree_dot a ts fs) ≡ unwind fs (rise (tree_base fs) 6 (a_fields a ts))
+dot_mean a ts fs h = let K : Got E → Got E = λ g. unwind fs (rise (tree_base fs) 6 g) in
+    m_pick K (same (next ts) t_dot) _ _ (with1 (a_word is_name (tail1 ts)) (λ x us. a_fields (e_field a x) us)) (it a ts)
+    (λ p. m_word (λ g. K (with1 g (λ x us. a_fields (e_field a x) us))) is_name (tail1 ts) _ (both_bad fs 6) (λ x us. ap (λ t. unwind fs (pick t (it (e_field a x) us) (rise (tree_base fs) 6 (a_fields (e_field a x) us)))) (lt-leb 7 (tree_base fs) (omega arith))))
     (λ p. refl)
-    ∙ ap K (sym (fields-eq a ts))
+    ∙ ap K (sym (fields_eq a ts))
 
-value-mean : (l : ℕ) (a : E) (ts : List Tok) (fs : List Tree-Frame) → l ≤ 7 → mean (tree-value l a ts fs) ≡ unwind fs (rise (tree-base fs) l (it a ts))
-value-mean zero a ts fs l7 = pop-mean a ts fs
-value-mean (suc j) a ts fs l7 = go (leb (suc j) (tree-base fs)) refl
+value_mean : (l : ℕ) (a : E) (ts : List Tok) (fs : List TreeFrame) → l ≤ 7 → mean (tree_value l a ts fs) ≡ unwind fs (rise (tree_base fs) l (it a ts))
+value_mean zero a ts fs l7 = pop_mean a ts fs
+value_mean (suc j) a ts fs l7 = go (leb (suc j) (tree_base fs)) refl
   where
-    six : (t : Bool) → eqb j 6 ≡ t → tree-base fs ≤ j → mean (pick t (tree-dot a ts fs) (tree-op j a ts fs)) ≡ unwind fs (rise (tree-base fs) j (next-level j a ts))
-    six true p h = let e = eqb-true j 6 p in dot-mean a ts fs (omega arith) ∙ ap (λ k. unwind fs (rise (tree-base fs) k (next-level k a ts))) (sym e)
-    six false p h = let e = eqb-false j 6 p in op-mean j a ts fs (omega arith) h
+    six : (t : Bool) → eqb j 6 ≡ t → tree_base fs ≤ j → mean (pick t (tree_dot a ts fs) (tree_op j a ts fs)) ≡ unwind fs (rise (tree_base fs) j (next_level j a ts))
+    six true p h = let e = eqb-true j 6 p in dot_mean a ts fs (omega arith) ∙ ap (λ k. unwind fs (rise (tree_base fs) k (next_level k a ts))) (sym e)
+    six false p h = let e = eqb-false j 6 p in op_mean j a ts fs (omega arith) h
 
-    go : (t : Bool) → leb (suc j) (tree-base fs) ≡ t → mean (pick t (tree-pop a ts fs) (pick (eqb j 6) (tree-dot a ts fs) (tree-op j a ts fs))) ≡ unwind fs (pick t (it a ts) (rise (tree-base fs) j (next-level j a ts)))
-    go true p = pop-mean a ts fs
-    go false p = let h = leb-false (suc j) (tree-base fs) p in six (eqb j 6) refl (omega arith)
+    go : (t : Bool) → leb (suc j) (tree_base fs) ≡ t → mean (pick t (tree_pop a ts fs) (pick (eqb j 6) (tree_dot a ts fs) (tree_op j a ts fs))) ≡ unwind fs (pick t (it a ts) (rise (tree_base fs) j (next_level j a ts)))
+    go true p = pop_mean a ts fs
+    go false p = let h = leb-false (suc j) (tree_base fs) p in six (eqb j 6) refl (omega arith)
 
-pub step-mean : (s : Tree-State) → Fine s → mean (tree-step s) ≡ mean s
-step-mean (tree-going at-begin ts fs) h = begin-mean ts fs h
-step-mean (tree-going at-atom ts fs) h = atom-mean ts fs
-step-mean (tree-going (at-value l a) ts fs) h = value-mean l a ts fs h
-step-mean (tree-won a ts) h = refl
-step-mean (tree-lost ts) h = refl
+pub step_mean : (s : TreeState) → Fine s → mean (tree_step s) ≡ mean s
+step_mean (tree_going at_begin ts fs) h = begin_mean ts fs h
+step_mean (tree_going at_atom ts fs) h = atom_mean ts fs
+step_mean (tree_going (at_value l a) ts fs) h = value_mean l a ts fs h
+step_mean (tree_won a ts) h = refl
+step_mean (tree_lost ts) h = refl

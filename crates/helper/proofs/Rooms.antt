@@ -1,17 +1,13 @@
 -- How much room texts take at most.
-use mathlib.Core.Path.{_≡_}
-use mathlib.Core.List.{List, [], _∷_}
-use Prim.Native.Nat.{ℕ, _+_, _*_, _≤_, max}
+use Rattle.std.proofs.Common.{◌≡◌, ℕ, ◌+◌, ◌*◌, ◌≤◌, max, List, [], ◌∷◌, length, arith}
 use native.Mathlib.Nat.{max-le}
-use native.Mathlib.Omega.{arith}
-use lib.ListN.{length}
-use Rattle·semantics.specs.Names.{Texts}
-use Rattle·semantics.specs.Answers.{weigh-texts}
-use Rattle·helper·specs.Says.{largest, room}
+use Rattle.semantics.specs.Names.{Texts}
+use Rattle.semantics.specs.Answers.{weigh_texts}
+use Rattle.helper.specs.Says.{largest, room}
 
-largest-le : (p : Texts) → largest p ≤ weigh-texts p
-largest-le [] = omega arith
-largest-le (x ∷ xs) = let h : largest xs ≤ weigh-texts xs = largest-le xs in max-le (omega arith) (omega arith)
+largest_le : (p : Texts) → largest p ≤ weigh_texts p
+largest_le [] = omega arith
+largest_le (x ∷ xs) = let h : largest xs ≤ weigh_texts xs = largest_le xs in max-le (omega arith) (omega arith)
 
-pub room-le : (p : Texts) → room p ≤ 65536 + 512 * weigh-texts p
-room-le p = let h = largest-le p in omega arith
+pub room_le : (p : Texts) → room p ≤ 65536 + 512 * weigh_texts p
+room_le p = let h = largest_le p in omega arith

@@ -1,9 +1,8 @@
 // What is asked of a helper and what it replies, one type each for every front end.
-ghost use mathlib.Core.Path.{_≡_};
-ghost use Rattle·helper·specs.Replies.{«call-of», ReplySays};
-use crate::contract::Answer;
-use crate::contract::Changed;
-use crate::contract::Helper;
+ghost use Rattle.std.specs.Prelude.{◌≡◌};
+ghost use Rattle.helper.specs.Replies.{call_of, ReplySays};
+
+use crate::contract::{Answer, Changed, Helper};
 
 // A change or a question. Names and texts are any bytes.
 #[derive(Clone, Copy)]
@@ -44,10 +43,10 @@ pub enum Reply {
 
 // The reply to a request; the words of an answer stand at the front of out.
 pub fn answer<H: Helper>(helper: &mut H, request: &Request, out: &mut [u64]) -> Reply
-    requires { ⌜ fit (now helper) ⌝ }
-    ensures fits { λ _. ⌜ fit (now (helper .exit)) ⌝ }
-    ensures says { λ r. ⌜ ReplySays («call-of» (now (request .entry))) (texts (now (helper .entry))) (words (now (helper .entry))) (now (out .entry)) (now (out .exit)) (texts (now (helper .exit))) r ⌝ }
-    ensures lent { λ _. ⌜ words (now (helper .exit)) ≡ words (now (helper .entry)) ⌝ }
+    requires { fit helper.old }
+    ensures fits { fit helper.new }
+    ensures says { ReplySays (call_of request.now) (texts helper.old) (words helper.old) out.old out.new (texts helper.new) result }
+    ensures lent { words helper.new ≡ words helper.old }
 {
     match *request {
         Request::Open { name, text } => Reply::Changed(helper.open(name, text)),

@@ -1,18 +1,11 @@
 // Any list of requests, one after the other.
-ghost use mathlib.Core.Path.{_≡_};
-ghost use mathlib.Core.List.{[], _∷_, _++_};
-ghost use lib.ListN.{length, take};
-ghost use Rattle·std.specs.Of.Vec.{vec-items};
-ghost use Rattle·std.specs.Vec.{made};
-ghost use Rattle·helper·specs.Replies.{«calls-of», «output-len»};
-ghost use Rattle·helper·specs.Runs.{Runs};
-use crate::contract::Answer;
-use crate::contract::Helper;
-use crate::request::Reply;
-use crate::request::Request;
-use crate::request::answer;
-use std::alloc::AllocError;
-use std::alloc::Global;
+ghost use Rattle.std.specs.Prelude.{◌≡◌, [], ◌∷◌, ◌++◌, length, take, IfOk, OnOk};
+ghost use Rattle.helper.specs.Replies.{calls_of, output_len};
+ghost use Rattle.helper.specs.Runs.{Runs};
+
+use crate::contract::{Answer, Helper};
+use crate::request::{Reply, Request, answer};
+use std::alloc::{AllocError, Global};
 
 // What was replied to requests, in their order, and the words of the answers, one answer behind the other.
 #[derive(Drop)]
@@ -23,7 +16,7 @@ pub struct Transcript {
 
 // How many words of output a reply has.
 pub fn output_len(reply: &Reply) -> usize
-    ensures { λ r. ⌜ r ≡ «output-len» (now (reply .entry)) ⌝ }
+    ensures { result ≡ output_len reply.now }
 {
     match *reply {
         Reply::Answered(Answer::Words(n)) => n,
@@ -33,7 +26,7 @@ pub fn output_len(reply: &Reply) -> usize
 
 // The first n words of a row, as far as it goes.
 fn front(words: &[u64], n: usize) -> &[u64]
-    ensures { λ r. ⌜ now r ≡ take n (now (words .entry)) ⌝ }
+    ensures { result.now ≡ take n words.now }
 {
     &words[..n.min(words.len())]
 }
@@ -41,8 +34,8 @@ fn front(words: &[u64], n: usize) -> &[u64]
 impl Transcript {
     // Nothing was asked yet.
     fn new(heap: Global) -> Transcript
-        ensures replies { λ r. ⌜ vec-items (r .replies) ≡ [] ⌝ }
-        ensures words { λ r. ⌜ vec-items (r .words) ≡ [] ⌝ }
+        ensures replies { result.replies.items ≡ [] }
+        ensures words { result.words.items ≡ [] }
     {
         Transcript {
             replies: Vec::new(heap),
@@ -52,8 +45,8 @@ impl Transcript {
 
     // One reply more, and the words of its answer, which stand at the front of out.
     fn note(&mut self, reply: Reply, out: &[u64]) -> Result<(), AllocError>
-        ensures replies { λ r. ⌜ made r (λ _. vec-items (now (self .exit) .replies) ≡ vec-items (now (self .entry) .replies) ++ (reply ∷ [])) ⌝ }
-        ensures words { λ r. ⌜ made r (λ _. vec-items (now (self .exit) .words) ≡ vec-items (now (self .entry) .words) ++ take («output-len» reply) (now (out .entry))) ⌝ }
+        ensures replies { OnOk result (self.new.replies.items ≡ self.old.replies.items ++ (reply ∷ [])) }
+        ensures words { OnOk result (self.new.words.items ≡ self.old.words.items ++ take (output_len reply) out.now) }
     {
         self.words
             .extend_from_slice(front(out, output_len(&reply)))?;
@@ -68,12 +61,12 @@ impl Transcript {
         requests: &[Request],
         out: &mut [u64],
     ) -> Result<(), AllocError>
-        requires fits { ⌜ fit (now helper) ⌝ }
-        requires replies { ⌜ vec-items (now self .replies) ≡ [] ⌝ }
-        requires words { ⌜ vec-items (now self .words) ≡ [] ⌝ }
-        ensures fits { λ _. ⌜ fit (now (helper .exit)) ⌝ }
-        ensures runs { λ r. ⌜ made r (λ _. Runs (words (now (helper .entry))) (length (now (out .entry))) (texts (now (helper .entry))) («calls-of» (now (requests .entry))) (vec-items (now (self .exit) .replies)) (vec-items (now (self .exit) .words)) (texts (now (helper .exit)))) ⌝ }
-        ensures lent { λ _. ⌜ words (now (helper .exit)) ≡ words (now (helper .entry)) ⌝ }
+        requires fits { fit helper.old }
+        requires replies { self.old.replies.items ≡ [] }
+        requires words { self.old.words.items ≡ [] }
+        ensures fits { fit helper.new }
+        ensures runs { OnOk result (Runs (words helper.old) (length out.old) (texts helper.old) (calls_of requests.now) self.new.replies.items self.new.words.items (texts helper.new)) }
+        ensures lent { words helper.new ≡ words helper.old }
     {
         for request in requests {
             let reply = answer(helper, request, out);
@@ -90,10 +83,10 @@ pub fn answer_all<H: Helper>(
     requests: &[Request],
     out: &mut [u64],
 ) -> Result<Transcript, AllocError>
-    requires { ⌜ fit (now helper) ⌝ }
-    ensures fits { λ _. ⌜ fit (now (helper .exit)) ⌝ }
-    ensures runs { λ r. ⌜ made r (λ t. Runs (words (now (helper .entry))) (length (now (out .entry))) (texts (now (helper .entry))) («calls-of» (now (requests .entry))) (vec-items (t .replies)) (vec-items (t .words)) (texts (now (helper .exit)))) ⌝ }
-    ensures lent { λ _. ⌜ words (now (helper .exit)) ≡ words (now (helper .entry)) ⌝ }
+    requires { fit helper.old }
+    ensures fits { fit helper.new }
+    ensures runs { IfOk result (λ t. Runs (words helper.old) (length out.old) (texts helper.old) (calls_of requests.now) t.replies.items t.words.items (texts helper.new)) }
+    ensures lent { words helper.new ≡ words helper.old }
 {
     let mut transcript = Transcript::new(heap);
     transcript.run(helper, requests, out)?;

@@ -1,21 +1,15 @@
 // Files are read and gone over line by line, and what isn't understood is printed.
-ghost use mathlib.Core.Path.{_≡_};
-ghost use Prim.Native.Nat.{ℕ, _≤_};
-ghost use Rattle·std.specs.Of.Vec.{vec-items};
-ghost use Rattle·std.specs.Vec.{made};
-ghost use Rattle·kaqshune·specs.Checked.{Checked};
+ghost use Rattle.std.specs.Prelude.{◌≡◌, ℕ, ◌≤◌, IfOk};
+ghost use Rattle.kaqshune.specs.Checked.{Checked};
+
+use anyhow::anyhow;
 use lexer::lines::line_end;
 use parser::code::Span;
-use report::show_line;
-use report::show_mark;
-use std::alloc::AllocError;
-use std::alloc::Global;
-use std::error::AnyError;
+use report::{show_line, show_mark};
+use std::alloc::{AllocError, Global};
 use std::fs;
 use std::io::Write;
-use syntax::read::Refusal;
-use syntax::read::read_line;
-use syntax::read::room;
+use syntax::read::{Refusal, read_line, room};
 
 // What was seen so far, and the row of words in which lines are read.
 #[derive(Drop)]
@@ -41,15 +35,15 @@ impl Totals {
     // Goes over a file. One that can't be read is said on standard error, and the next ones are still read.
     pub fn check_file<W: Write>(
         &mut self,
-        rt: &LibcRuntime,
+        rt: &HostRuntime,
         path: &str,
         out: &mut W,
-    ) -> Result<(), AnyError> {
+    ) -> anyhow::Result<()> {
         let bytes = match fs::read(rt, path) {
             Ok(bytes) => bytes,
             Err(e) => {
                 self.readable = false;
-                eprintln!(rt, "kaqshune: {path}: {e}")?;
+                eprintln!(rt; "kaqshune: {path}: {e}")?;
                 return Ok(());
             }
         };
@@ -65,7 +59,7 @@ impl Totals {
         path: &str,
         text: &[u32],
         out: &mut W,
-    ) -> Result<(), AnyError> {
+    ) -> anyhow::Result<()> {
         let mut from = 0;
         for number in 1..u64::MAX {
             if from >= text.len() {
@@ -83,13 +77,10 @@ impl Totals {
     }
 
     // How many files, lines and faults there were.
-    pub fn print<W: Write>(&self, rt: &LibcRuntime, out: &mut W) -> Result<(), AnyError> {
+    pub fn print<W: Write>(&self, rt: &HostRuntime, out: &mut W) -> anyhow::Result<()> {
         let (files, lines, faults) = (self.files, self.lines, self.faults);
         let (f, l, w) = (plural(files), plural(lines), plural(faults));
-        let said = format!(
-            rt.alloc(),
-            "{files} file{f}, {lines} line{l}, {faults} fault{w}\n"
-        )?;
+        let said = format!(in rt.alloc(); "{files} file{f}, {lines} line{l}, {faults} fault{w}\n")?;
         out.write_all(said.as_bytes())?;
         Ok(())
     }
@@ -101,7 +92,7 @@ fn plural(n: u64) -> &'static str {
 
 // Each byte as a word.
 fn widened(heap: Global, bytes: &[u8]) -> Result<Vec<u32>, AllocError>
-    ensures { λ r. ⌜ made r (λ v. vec-items v ≡ now (bytes .entry)) ⌝ }
+    ensures { IfOk result (λ v. v.items ≡ bytes.now) }
 {
     let mut words = Vec::with_capacity(heap, bytes.len())?;
     for b in bytes {
@@ -112,14 +103,14 @@ fn widened(heap: Global, bytes: &[u8]) -> Result<Vec<u32>, AllocError>
 
 // How many words a row needs in which a line of so many bytes is read.
 fn row_len(len: usize) -> usize
-    ensures { λ r. ⌜ len ≤ r ⌝ }
+    ensures { len ≤ result }
 {
     len.saturating_add(room(len))
 }
 
 // Where a line isn't understood, if it isn't. It is read in the row, of which nothing is kept.
-fn wrong_place(row: &mut Vec<u32>, line: &[u32]) -> Result<Option<Span>, AnyError>
-    ensures { λ r. ⌜ made r (λ o. Checked (now (line .entry)) o) ⌝ }
+fn wrong_place(row: &mut Vec<u32>, line: &[u32]) -> anyhow::Result<Option<Span>>
+    ensures { IfOk result (λ o. Checked line.now o) }
 {
     row.clear();
     row.extend_from_slice(line)?;
@@ -128,7 +119,7 @@ fn wrong_place(row: &mut Vec<u32>, line: &[u32]) -> Result<Option<Span>, AnyErro
         Ok(_) => Ok(None),
         Err(refusal) => match refusal {
             Refusal::Wrong(place) => Ok(Some(place)),
-            Refusal::NoRoom => Err("a line is too long".into()),
+            Refusal::NoRoom => Err(anyhow!("a line is too long")),
         },
     }
 }
@@ -141,9 +132,9 @@ fn print_fault<W: Write>(
     line: &[u32],
     place: Span,
     out: &mut W,
-) -> Result<(), AnyError> {
+) -> anyhow::Result<()> {
     let column = u64::from(place.from) + 1;
-    let head = format!(heap, "{path}:{number}:{column}: fault 1: not understood\n")?;
+    let head = format!(in heap; "{path}:{number}:{column}: fault 1: not understood\n")?;
     out.write_all(head.as_bytes())?;
     let mut shown = Vec::new(heap);
     show_line(&mut shown, line)?;

@@ -5,9 +5,7 @@ mod options;
 
 use check::Totals;
 use options::Options;
-use std::error::AnyError;
-use std::io::BufWriter;
-use std::io::Write;
+use std::io::{BufWriter, Write};
 
 // Something was wrong; what it was has been said. The process then ends with status 1.
 #[derive(Drop)]
@@ -25,8 +23,8 @@ a mark under the place, and at the end how many files, lines and faults there ar
 Status 1 where there is a fault, a file that can't be read, or wrong usage.
 ";
 
-fn run(rt: &LibcRuntime, options: &Options) -> Result<bool, AnyError> {
-    let mut out = BufWriter::new(rt.stdout());
+fn run(rt: &HostRuntime, options: &Options) -> anyhow::Result<bool> {
+    let mut out = BufWriter::new(rt.alloc(), rt.stdout())?;
     if options.help {
         out.write_all(HELP.as_bytes())?;
         out.flush()?;
@@ -41,12 +39,12 @@ fn run(rt: &LibcRuntime, options: &Options) -> Result<bool, AnyError> {
     Ok(totals.readable && (options.exit_zero || totals.faults == 0))
 }
 
-fn main(rt: LibcRuntime) -> Result<(), Failed> {
+fn main(rt: HostRuntime) -> Result<(), Failed> {
     let options = match Options::from_args(&rt) {
         Ok(options) => options,
         Err(e) => {
-            let _ = eprintln!(rt, "kaqshune: {e}");
-            let _ = eprint!(rt, "{HELP}");
+            let _ = eprintln!(rt; "kaqshune: {e}");
+            let _ = eprint!(rt; "{HELP}");
             return Err(Failed);
         }
     };
@@ -54,7 +52,7 @@ fn main(rt: LibcRuntime) -> Result<(), Failed> {
         Ok(true) => Ok(()),
         Ok(false) => Err(Failed),
         Err(e) => {
-            let _ = eprintln!(rt, "kaqshune: {e}");
+            let _ = eprintln!(rt; "kaqshune: {e}");
             Err(Failed)
         }
     }

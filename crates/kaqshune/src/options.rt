@@ -1,6 +1,6 @@
 // What the program is asked to do.
+use anyhow::anyhow;
 use std::env;
-use std::error::AnyError;
 
 #[derive(Drop)]
 pub struct Options {
@@ -11,7 +11,7 @@ pub struct Options {
 
 impl Options {
     // The options and files of the command line; an error that says what is wrong with it.
-    pub fn from_args(rt: &LibcRuntime) -> Result<Options, AnyError> {
+    pub fn from_args(rt: &HostRuntime) -> anyhow::Result<Options> {
         let mut exit_zero = false;
         let mut help = false;
         let mut only_files = false;
@@ -25,11 +25,11 @@ impl Options {
                 "--" => only_files = true,
                 "--exit-zero" => exit_zero = true,
                 "--help" => help = true,
-                other => return Err(format!(rt.alloc(), "there is no option {other}")?.into()),
+                other => return Err(anyhow!(format!(in rt.alloc(); "there is no option {other}")?)),
             }
         }
         if files.is_empty() && !help {
-            return Err("no file is named".into());
+            return Err(anyhow!("no file is named"));
         }
         Ok(Options {
             exit_zero,

@@ -1,555 +1,551 @@
 -- Each test on a piece's word, as a test on its kind: what the parser asks of a token instead of comparing words.
-use mathlib.Core.Path.{_≡_, refl, sym, ap, subst, _∙_}
-use mathlib.Core.Bool.{Bool, true, false, _&&_, _||_, not, false≢true}
-use mathlib.Core.List.{List, [], _∷_}
+use Rattle.std.proofs.Common.{◌≡◌, ℕ, zero, suc, Bool, true, false, not, ◌&&◌, ◌||◌, eqb, leb, List, [], ◌∷◌, sym, refl, ap, ◌∙◌, subst, eqb-true}
+use mathlib.Core.Bool.{false≢true}
 use mathlib.Core.Option.{Option, some, none}
-use Prim.Native.Nat.{ℕ, zero, suc}
-use lib.Dec.{eqb, leb}
-use borrow.Author.Tests.{eqb-true}
-use Rattle·base.specs.Base.{pick, opt, or-else, when1, Word, same, among, any-of}
-use Rattle·lexer·specs.Tokens.{letter}
-use Rattle·lexer·specs.Words.{k-use, k-kind, k-rec, k-def, k-let, k-in, k-if, k-then, k-else, k-and, k-or, k-num, k-bool, t-lp, t-rp, t-comma, t-gets, t-is, t-less, t-plus, t-minus, t-times, t-dot, kept, first, is-number, digits, is-name, is-type, op-at, compares, op-any}
-use Rattle·lexer·specs.declared.token.Operator.{Operator}
-use Rattle·lexer·specs.declared.token.Operator.the-variants.{Plus, Minus, Times, Equal, Less, And, Or}
-use Rattle·lexer·specs.declared.token.Token.{Token}
-use Rattle·lexer·specs.declared.token.Token.the-variants.{Use, Kind, Rec, Def, Let, In, If, Then, Else, Num, Bool as TypeBool, Open, Close, Comma, Gets, Dot, Sign, Number, BadNumber, Name, Other, End}
-use Rattle·lexer·specs.Kinds.{operator, level-of, token-of}
+use Rattle.base.specs.Base.{pick, opt, or_else, when1, Word, same, among, any_of}
+use Rattle.lexer.specs.Tokens.{letter}
+use Rattle.lexer.specs.Words.{k_use, k_kind, k_rec, k_def, k_let, k_in, k_if, k_then, k_else, k_and, k_or, k_num, k_bool, t_lp, t_rp, t_comma, t_gets, t_is, t_less, t_plus, t_minus, t_times, t_dot, kept, first, is_number, digits, is_name, is_type, op_at, compares, op_any}
+use Rattle.lexer.specs.declared.token.Operator.{Operator}
+use Rattle.lexer.specs.declared.token.Operator.TheVariants.{Plus, Minus, Times, Equal, Less, And, Or}
+use Rattle.lexer.specs.declared.token.Token.{Token}
+use Rattle.lexer.specs.declared.token.Token.TheVariants.{Use, Kind, Rec, Def, Let, In, If, Then, Else, Num, Bool as TypeBool, Open, Close, Comma, Gets, Dot, Sign, Number, BadNumber, Name, Other, End}
+use Rattle.lexer.specs.Kinds.{operator, level_of, token_of}
 
 -- tests on a token
-abbrev pub is-use : Token → Bool
-is-use Use = true
-is-use Kind = false
-is-use Rec = false
-is-use Def = false
-is-use Let = false
-is-use In = false
-is-use If = false
-is-use Then = false
-is-use Else = false
-is-use Num = false
-is-use TypeBool = false
-is-use Open = false
-is-use Close = false
-is-use Comma = false
-is-use Gets = false
-is-use Dot = false
-is-use (Sign o) = false
-is-use Number = false
-is-use BadNumber = false
-is-use Name = false
-is-use Other = false
-is-use End = false
+abbrev pub is_use : Token → Bool
+is_use Use = true
+is_use Kind = false
+is_use Rec = false
+is_use Def = false
+is_use Let = false
+is_use In = false
+is_use If = false
+is_use Then = false
+is_use Else = false
+is_use Num = false
+is_use TypeBool = false
+is_use Open = false
+is_use Close = false
+is_use Comma = false
+is_use Gets = false
+is_use Dot = false
+is_use (Sign o) = false
+is_use Number = false
+is_use BadNumber = false
+is_use Name = false
+is_use Other = false
+is_use End = false
 
-abbrev pub is-kind : Token → Bool
-is-kind Use = false
-is-kind Kind = true
-is-kind Rec = false
-is-kind Def = false
-is-kind Let = false
-is-kind In = false
-is-kind If = false
-is-kind Then = false
-is-kind Else = false
-is-kind Num = false
-is-kind TypeBool = false
-is-kind Open = false
-is-kind Close = false
-is-kind Comma = false
-is-kind Gets = false
-is-kind Dot = false
-is-kind (Sign o) = false
-is-kind Number = false
-is-kind BadNumber = false
-is-kind Name = false
-is-kind Other = false
-is-kind End = false
+abbrev pub is_kind : Token → Bool
+is_kind Use = false
+is_kind Kind = true
+is_kind Rec = false
+is_kind Def = false
+is_kind Let = false
+is_kind In = false
+is_kind If = false
+is_kind Then = false
+is_kind Else = false
+is_kind Num = false
+is_kind TypeBool = false
+is_kind Open = false
+is_kind Close = false
+is_kind Comma = false
+is_kind Gets = false
+is_kind Dot = false
+is_kind (Sign o) = false
+is_kind Number = false
+is_kind BadNumber = false
+is_kind Name = false
+is_kind Other = false
+is_kind End = false
 
-abbrev pub is-rec : Token → Bool
-is-rec Use = false
-is-rec Kind = false
-is-rec Rec = true
-is-rec Def = false
-is-rec Let = false
-is-rec In = false
-is-rec If = false
-is-rec Then = false
-is-rec Else = false
-is-rec Num = false
-is-rec TypeBool = false
-is-rec Open = false
-is-rec Close = false
-is-rec Comma = false
-is-rec Gets = false
-is-rec Dot = false
-is-rec (Sign o) = false
-is-rec Number = false
-is-rec BadNumber = false
-is-rec Name = false
-is-rec Other = false
-is-rec End = false
+abbrev pub is_rec : Token → Bool
+is_rec Use = false
+is_rec Kind = false
+is_rec Rec = true
+is_rec Def = false
+is_rec Let = false
+is_rec In = false
+is_rec If = false
+is_rec Then = false
+is_rec Else = false
+is_rec Num = false
+is_rec TypeBool = false
+is_rec Open = false
+is_rec Close = false
+is_rec Comma = false
+is_rec Gets = false
+is_rec Dot = false
+is_rec (Sign o) = false
+is_rec Number = false
+is_rec BadNumber = false
+is_rec Name = false
+is_rec Other = false
+is_rec End = false
 
-abbrev pub is-def : Token → Bool
-is-def Use = false
-is-def Kind = false
-is-def Rec = false
-is-def Def = true
-is-def Let = false
-is-def In = false
-is-def If = false
-is-def Then = false
-is-def Else = false
-is-def Num = false
-is-def TypeBool = false
-is-def Open = false
-is-def Close = false
-is-def Comma = false
-is-def Gets = false
-is-def Dot = false
-is-def (Sign o) = false
-is-def Number = false
-is-def BadNumber = false
-is-def Name = false
-is-def Other = false
-is-def End = false
+abbrev pub is_def : Token → Bool
+is_def Use = false
+is_def Kind = false
+is_def Rec = false
+is_def Def = true
+is_def Let = false
+is_def In = false
+is_def If = false
+is_def Then = false
+is_def Else = false
+is_def Num = false
+is_def TypeBool = false
+is_def Open = false
+is_def Close = false
+is_def Comma = false
+is_def Gets = false
+is_def Dot = false
+is_def (Sign o) = false
+is_def Number = false
+is_def BadNumber = false
+is_def Name = false
+is_def Other = false
+is_def End = false
 
-abbrev pub is-let : Token → Bool
-is-let Use = false
-is-let Kind = false
-is-let Rec = false
-is-let Def = false
-is-let Let = true
-is-let In = false
-is-let If = false
-is-let Then = false
-is-let Else = false
-is-let Num = false
-is-let TypeBool = false
-is-let Open = false
-is-let Close = false
-is-let Comma = false
-is-let Gets = false
-is-let Dot = false
-is-let (Sign o) = false
-is-let Number = false
-is-let BadNumber = false
-is-let Name = false
-is-let Other = false
-is-let End = false
+abbrev pub is_let : Token → Bool
+is_let Use = false
+is_let Kind = false
+is_let Rec = false
+is_let Def = false
+is_let Let = true
+is_let In = false
+is_let If = false
+is_let Then = false
+is_let Else = false
+is_let Num = false
+is_let TypeBool = false
+is_let Open = false
+is_let Close = false
+is_let Comma = false
+is_let Gets = false
+is_let Dot = false
+is_let (Sign o) = false
+is_let Number = false
+is_let BadNumber = false
+is_let Name = false
+is_let Other = false
+is_let End = false
 
-abbrev pub is-in : Token → Bool
-is-in Use = false
-is-in Kind = false
-is-in Rec = false
-is-in Def = false
-is-in Let = false
-is-in In = true
-is-in If = false
-is-in Then = false
-is-in Else = false
-is-in Num = false
-is-in TypeBool = false
-is-in Open = false
-is-in Close = false
-is-in Comma = false
-is-in Gets = false
-is-in Dot = false
-is-in (Sign o) = false
-is-in Number = false
-is-in BadNumber = false
-is-in Name = false
-is-in Other = false
-is-in End = false
+abbrev pub is_in : Token → Bool
+is_in Use = false
+is_in Kind = false
+is_in Rec = false
+is_in Def = false
+is_in Let = false
+is_in In = true
+is_in If = false
+is_in Then = false
+is_in Else = false
+is_in Num = false
+is_in TypeBool = false
+is_in Open = false
+is_in Close = false
+is_in Comma = false
+is_in Gets = false
+is_in Dot = false
+is_in (Sign o) = false
+is_in Number = false
+is_in BadNumber = false
+is_in Name = false
+is_in Other = false
+is_in End = false
 
-abbrev pub is-if : Token → Bool
-is-if Use = false
-is-if Kind = false
-is-if Rec = false
-is-if Def = false
-is-if Let = false
-is-if In = false
-is-if If = true
-is-if Then = false
-is-if Else = false
-is-if Num = false
-is-if TypeBool = false
-is-if Open = false
-is-if Close = false
-is-if Comma = false
-is-if Gets = false
-is-if Dot = false
-is-if (Sign o) = false
-is-if Number = false
-is-if BadNumber = false
-is-if Name = false
-is-if Other = false
-is-if End = false
+abbrev pub is_if : Token → Bool
+is_if Use = false
+is_if Kind = false
+is_if Rec = false
+is_if Def = false
+is_if Let = false
+is_if In = false
+is_if If = true
+is_if Then = false
+is_if Else = false
+is_if Num = false
+is_if TypeBool = false
+is_if Open = false
+is_if Close = false
+is_if Comma = false
+is_if Gets = false
+is_if Dot = false
+is_if (Sign o) = false
+is_if Number = false
+is_if BadNumber = false
+is_if Name = false
+is_if Other = false
+is_if End = false
 
-abbrev pub is-then : Token → Bool
-is-then Use = false
-is-then Kind = false
-is-then Rec = false
-is-then Def = false
-is-then Let = false
-is-then In = false
-is-then If = false
-is-then Then = true
-is-then Else = false
-is-then Num = false
-is-then TypeBool = false
-is-then Open = false
-is-then Close = false
-is-then Comma = false
-is-then Gets = false
-is-then Dot = false
-is-then (Sign o) = false
-is-then Number = false
-is-then BadNumber = false
-is-then Name = false
-is-then Other = false
-is-then End = false
+abbrev pub is_then : Token → Bool
+is_then Use = false
+is_then Kind = false
+is_then Rec = false
+is_then Def = false
+is_then Let = false
+is_then In = false
+is_then If = false
+is_then Then = true
+is_then Else = false
+is_then Num = false
+is_then TypeBool = false
+is_then Open = false
+is_then Close = false
+is_then Comma = false
+is_then Gets = false
+is_then Dot = false
+is_then (Sign o) = false
+is_then Number = false
+is_then BadNumber = false
+is_then Name = false
+is_then Other = false
+is_then End = false
 
-abbrev pub is-else : Token → Bool
-is-else Use = false
-is-else Kind = false
-is-else Rec = false
-is-else Def = false
-is-else Let = false
-is-else In = false
-is-else If = false
-is-else Then = false
-is-else Else = true
-is-else Num = false
-is-else TypeBool = false
-is-else Open = false
-is-else Close = false
-is-else Comma = false
-is-else Gets = false
-is-else Dot = false
-is-else (Sign o) = false
-is-else Number = false
-is-else BadNumber = false
-is-else Name = false
-is-else Other = false
-is-else End = false
+abbrev pub is_else : Token → Bool
+is_else Use = false
+is_else Kind = false
+is_else Rec = false
+is_else Def = false
+is_else Let = false
+is_else In = false
+is_else If = false
+is_else Then = false
+is_else Else = true
+is_else Num = false
+is_else TypeBool = false
+is_else Open = false
+is_else Close = false
+is_else Comma = false
+is_else Gets = false
+is_else Dot = false
+is_else (Sign o) = false
+is_else Number = false
+is_else BadNumber = false
+is_else Name = false
+is_else Other = false
+is_else End = false
 
-abbrev pub is-num : Token → Bool
-is-num Use = false
-is-num Kind = false
-is-num Rec = false
-is-num Def = false
-is-num Let = false
-is-num In = false
-is-num If = false
-is-num Then = false
-is-num Else = false
-is-num Num = true
-is-num TypeBool = false
-is-num Open = false
-is-num Close = false
-is-num Comma = false
-is-num Gets = false
-is-num Dot = false
-is-num (Sign o) = false
-is-num Number = false
-is-num BadNumber = false
-is-num Name = false
-is-num Other = false
-is-num End = false
+abbrev pub is_num : Token → Bool
+is_num Use = false
+is_num Kind = false
+is_num Rec = false
+is_num Def = false
+is_num Let = false
+is_num In = false
+is_num If = false
+is_num Then = false
+is_num Else = false
+is_num Num = true
+is_num TypeBool = false
+is_num Open = false
+is_num Close = false
+is_num Comma = false
+is_num Gets = false
+is_num Dot = false
+is_num (Sign o) = false
+is_num Number = false
+is_num BadNumber = false
+is_num Name = false
+is_num Other = false
+is_num End = false
 
-abbrev pub is-bool : Token → Bool
-is-bool Use = false
-is-bool Kind = false
-is-bool Rec = false
-is-bool Def = false
-is-bool Let = false
-is-bool In = false
-is-bool If = false
-is-bool Then = false
-is-bool Else = false
-is-bool Num = false
-is-bool TypeBool = true
-is-bool Open = false
-is-bool Close = false
-is-bool Comma = false
-is-bool Gets = false
-is-bool Dot = false
-is-bool (Sign o) = false
-is-bool Number = false
-is-bool BadNumber = false
-is-bool Name = false
-is-bool Other = false
-is-bool End = false
+abbrev pub is_bool : Token → Bool
+is_bool Use = false
+is_bool Kind = false
+is_bool Rec = false
+is_bool Def = false
+is_bool Let = false
+is_bool In = false
+is_bool If = false
+is_bool Then = false
+is_bool Else = false
+is_bool Num = false
+is_bool TypeBool = true
+is_bool Open = false
+is_bool Close = false
+is_bool Comma = false
+is_bool Gets = false
+is_bool Dot = false
+is_bool (Sign o) = false
+is_bool Number = false
+is_bool BadNumber = false
+is_bool Name = false
+is_bool Other = false
+is_bool End = false
 
-abbrev pub is-open : Token → Bool
-is-open Use = false
-is-open Kind = false
-is-open Rec = false
-is-open Def = false
-is-open Let = false
-is-open In = false
-is-open If = false
-is-open Then = false
-is-open Else = false
-is-open Num = false
-is-open TypeBool = false
-is-open Open = true
-is-open Close = false
-is-open Comma = false
-is-open Gets = false
-is-open Dot = false
-is-open (Sign o) = false
-is-open Number = false
-is-open BadNumber = false
-is-open Name = false
-is-open Other = false
-is-open End = false
+abbrev pub is_open : Token → Bool
+is_open Use = false
+is_open Kind = false
+is_open Rec = false
+is_open Def = false
+is_open Let = false
+is_open In = false
+is_open If = false
+is_open Then = false
+is_open Else = false
+is_open Num = false
+is_open TypeBool = false
+is_open Open = true
+is_open Close = false
+is_open Comma = false
+is_open Gets = false
+is_open Dot = false
+is_open (Sign o) = false
+is_open Number = false
+is_open BadNumber = false
+is_open Name = false
+is_open Other = false
+is_open End = false
 
-abbrev pub is-close : Token → Bool
-is-close Use = false
-is-close Kind = false
-is-close Rec = false
-is-close Def = false
-is-close Let = false
-is-close In = false
-is-close If = false
-is-close Then = false
-is-close Else = false
-is-close Num = false
-is-close TypeBool = false
-is-close Open = false
-is-close Close = true
-is-close Comma = false
-is-close Gets = false
-is-close Dot = false
-is-close (Sign o) = false
-is-close Number = false
-is-close BadNumber = false
-is-close Name = false
-is-close Other = false
-is-close End = false
+abbrev pub is_close : Token → Bool
+is_close Use = false
+is_close Kind = false
+is_close Rec = false
+is_close Def = false
+is_close Let = false
+is_close In = false
+is_close If = false
+is_close Then = false
+is_close Else = false
+is_close Num = false
+is_close TypeBool = false
+is_close Open = false
+is_close Close = true
+is_close Comma = false
+is_close Gets = false
+is_close Dot = false
+is_close (Sign o) = false
+is_close Number = false
+is_close BadNumber = false
+is_close Name = false
+is_close Other = false
+is_close End = false
 
-abbrev pub is-comma : Token → Bool
-is-comma Use = false
-is-comma Kind = false
-is-comma Rec = false
-is-comma Def = false
-is-comma Let = false
-is-comma In = false
-is-comma If = false
-is-comma Then = false
-is-comma Else = false
-is-comma Num = false
-is-comma TypeBool = false
-is-comma Open = false
-is-comma Close = false
-is-comma Comma = true
-is-comma Gets = false
-is-comma Dot = false
-is-comma (Sign o) = false
-is-comma Number = false
-is-comma BadNumber = false
-is-comma Name = false
-is-comma Other = false
-is-comma End = false
+abbrev pub is_comma : Token → Bool
+is_comma Use = false
+is_comma Kind = false
+is_comma Rec = false
+is_comma Def = false
+is_comma Let = false
+is_comma In = false
+is_comma If = false
+is_comma Then = false
+is_comma Else = false
+is_comma Num = false
+is_comma TypeBool = false
+is_comma Open = false
+is_comma Close = false
+is_comma Comma = true
+is_comma Gets = false
+is_comma Dot = false
+is_comma (Sign o) = false
+is_comma Number = false
+is_comma BadNumber = false
+is_comma Name = false
+is_comma Other = false
+is_comma End = false
 
-abbrev pub is-gets : Token → Bool
-is-gets Use = false
-is-gets Kind = false
-is-gets Rec = false
-is-gets Def = false
-is-gets Let = false
-is-gets In = false
-is-gets If = false
-is-gets Then = false
-is-gets Else = false
-is-gets Num = false
-is-gets TypeBool = false
-is-gets Open = false
-is-gets Close = false
-is-gets Comma = false
-is-gets Gets = true
-is-gets Dot = false
-is-gets (Sign o) = false
-is-gets Number = false
-is-gets BadNumber = false
-is-gets Name = false
-is-gets Other = false
-is-gets End = false
+abbrev pub is_gets : Token → Bool
+is_gets Use = false
+is_gets Kind = false
+is_gets Rec = false
+is_gets Def = false
+is_gets Let = false
+is_gets In = false
+is_gets If = false
+is_gets Then = false
+is_gets Else = false
+is_gets Num = false
+is_gets TypeBool = false
+is_gets Open = false
+is_gets Close = false
+is_gets Comma = false
+is_gets Gets = true
+is_gets Dot = false
+is_gets (Sign o) = false
+is_gets Number = false
+is_gets BadNumber = false
+is_gets Name = false
+is_gets Other = false
+is_gets End = false
 
-abbrev pub is-dot : Token → Bool
-is-dot Use = false
-is-dot Kind = false
-is-dot Rec = false
-is-dot Def = false
-is-dot Let = false
-is-dot In = false
-is-dot If = false
-is-dot Then = false
-is-dot Else = false
-is-dot Num = false
-is-dot TypeBool = false
-is-dot Open = false
-is-dot Close = false
-is-dot Comma = false
-is-dot Gets = false
-is-dot Dot = true
-is-dot (Sign o) = false
-is-dot Number = false
-is-dot BadNumber = false
-is-dot Name = false
-is-dot Other = false
-is-dot End = false
+abbrev pub is_dot : Token → Bool
+is_dot Use = false
+is_dot Kind = false
+is_dot Rec = false
+is_dot Def = false
+is_dot Let = false
+is_dot In = false
+is_dot If = false
+is_dot Then = false
+is_dot Else = false
+is_dot Num = false
+is_dot TypeBool = false
+is_dot Open = false
+is_dot Close = false
+is_dot Comma = false
+is_dot Gets = false
+is_dot Dot = true
+is_dot (Sign o) = false
+is_dot Number = false
+is_dot BadNumber = false
+is_dot Name = false
+is_dot Other = false
+is_dot End = false
 
-abbrev pub is-named : Token → Bool
-is-named Use = false
-is-named Kind = false
-is-named Rec = false
-is-named Def = false
-is-named Let = false
-is-named In = false
-is-named If = false
-is-named Then = false
-is-named Else = false
-is-named Num = false
-is-named TypeBool = false
-is-named Open = false
-is-named Close = false
-is-named Comma = false
-is-named Gets = false
-is-named Dot = false
-is-named (Sign o) = false
-is-named Number = false
-is-named BadNumber = false
-is-named Name = true
-is-named Other = false
-is-named End = false
+abbrev pub is_named : Token → Bool
+is_named Use = false
+is_named Kind = false
+is_named Rec = false
+is_named Def = false
+is_named Let = false
+is_named In = false
+is_named If = false
+is_named Then = false
+is_named Else = false
+is_named Num = false
+is_named TypeBool = false
+is_named Open = false
+is_named Close = false
+is_named Comma = false
+is_named Gets = false
+is_named Dot = false
+is_named (Sign o) = false
+is_named Number = false
+is_named BadNumber = false
+is_named Name = true
+is_named Other = false
+is_named End = false
 
-abbrev pub is-typed : Token → Bool
-is-typed Use = false
-is-typed Kind = false
-is-typed Rec = false
-is-typed Def = false
-is-typed Let = false
-is-typed In = false
-is-typed If = false
-is-typed Then = false
-is-typed Else = false
-is-typed Num = true
-is-typed TypeBool = true
-is-typed Open = false
-is-typed Close = false
-is-typed Comma = false
-is-typed Gets = false
-is-typed Dot = false
-is-typed (Sign o) = false
-is-typed Number = false
-is-typed BadNumber = false
-is-typed Name = true
-is-typed Other = false
-is-typed End = false
+abbrev pub is_typed : Token → Bool
+is_typed Use = false
+is_typed Kind = false
+is_typed Rec = false
+is_typed Def = false
+is_typed Let = false
+is_typed In = false
+is_typed If = false
+is_typed Then = false
+is_typed Else = false
+is_typed Num = true
+is_typed TypeBool = true
+is_typed Open = false
+is_typed Close = false
+is_typed Comma = false
+is_typed Gets = false
+is_typed Dot = false
+is_typed (Sign o) = false
+is_typed Number = false
+is_typed BadNumber = false
+is_typed Name = true
+is_typed Other = false
+is_typed End = false
 
-abbrev pub is-digit : Token → Bool
-is-digit Use = false
-is-digit Kind = false
-is-digit Rec = false
-is-digit Def = false
-is-digit Let = false
-is-digit In = false
-is-digit If = false
-is-digit Then = false
-is-digit Else = false
-is-digit Num = false
-is-digit TypeBool = false
-is-digit Open = false
-is-digit Close = false
-is-digit Comma = false
-is-digit Gets = false
-is-digit Dot = false
-is-digit (Sign o) = false
-is-digit Number = true
-is-digit BadNumber = true
-is-digit Name = false
-is-digit Other = false
-is-digit End = false
+abbrev pub is_digit : Token → Bool
+is_digit Use = false
+is_digit Kind = false
+is_digit Rec = false
+is_digit Def = false
+is_digit Let = false
+is_digit In = false
+is_digit If = false
+is_digit Then = false
+is_digit Else = false
+is_digit Num = false
+is_digit TypeBool = false
+is_digit Open = false
+is_digit Close = false
+is_digit Comma = false
+is_digit Gets = false
+is_digit Dot = false
+is_digit (Sign o) = false
+is_digit Number = true
+is_digit BadNumber = true
+is_digit Name = false
+is_digit Other = false
+is_digit End = false
 
-abbrev pub is-digits : Token → Bool
-is-digits Use = false
-is-digits Kind = false
-is-digits Rec = false
-is-digits Def = false
-is-digits Let = false
-is-digits In = false
-is-digits If = false
-is-digits Then = false
-is-digits Else = false
-is-digits Num = false
-is-digits TypeBool = false
-is-digits Open = false
-is-digits Close = false
-is-digits Comma = false
-is-digits Gets = false
-is-digits Dot = false
-is-digits (Sign o) = false
-is-digits Number = true
-is-digits BadNumber = false
-is-digits Name = false
-is-digits Other = false
-is-digits End = false
+abbrev pub is_digits : Token → Bool
+is_digits Use = false
+is_digits Kind = false
+is_digits Rec = false
+is_digits Def = false
+is_digits Let = false
+is_digits In = false
+is_digits If = false
+is_digits Then = false
+is_digits Else = false
+is_digits Num = false
+is_digits TypeBool = false
+is_digits Open = false
+is_digits Close = false
+is_digits Comma = false
+is_digits Gets = false
+is_digits Dot = false
+is_digits (Sign o) = false
+is_digits Number = true
+is_digits BadNumber = false
+is_digits Name = false
+is_digits Other = false
+is_digits End = false
 
 -- the operator that a token is at a level
-abbrev pub op-in : ℕ → Token → Option ℕ
-op-in j Use = none
-op-in j Kind = none
-op-in j Rec = none
-op-in j Def = none
-op-in j Let = none
-op-in j In = none
-op-in j If = none
-op-in j Then = none
-op-in j Else = none
-op-in j Num = none
-op-in j TypeBool = none
-op-in j Open = none
-op-in j Close = none
-op-in j Comma = none
-op-in j Gets = none
-op-in j Dot = none
-op-in j (Sign o) = pick (eqb j (level-of o)) (some (operator o)) none
-op-in j Number = none
-op-in j BadNumber = none
-op-in j Name = none
-op-in j Other = none
-op-in j End = none
+abbrev pub op_in : ℕ → Token → Option ℕ
+op_in j Use = none
+op_in j Kind = none
+op_in j Rec = none
+op_in j Def = none
+op_in j Let = none
+op_in j In = none
+op_in j If = none
+op_in j Then = none
+op_in j Else = none
+op_in j Num = none
+op_in j TypeBool = none
+op_in j Open = none
+op_in j Close = none
+op_in j Comma = none
+op_in j Gets = none
+op_in j Dot = none
+op_in j (Sign o) = pick (eqb j (level_of o)) (some (operator o)) none
+op_in j Number = none
+op_in j BadNumber = none
+op_in j Name = none
+op_in j Other = none
+op_in j End = none
 
 pub record Facts (w : Word) (t : Token) : Type 0 where
-  pub use-is : same w k-use ≡ is-use t
-  pub kind-is : same w k-kind ≡ is-kind t
-  pub rec-is : same w k-rec ≡ is-rec t
-  pub def-is : same w k-def ≡ is-def t
-  pub let-is : same w k-let ≡ is-let t
-  pub in-is : same w k-in ≡ is-in t
-  pub if-is : same w k-if ≡ is-if t
-  pub then-is : same w k-then ≡ is-then t
-  pub else-is : same w k-else ≡ is-else t
-  pub num-is : same w k-num ≡ is-num t
-  pub bool-is : same w k-bool ≡ is-bool t
-  pub open-is : same w t-lp ≡ is-open t
-  pub close-is : same w t-rp ≡ is-close t
-  pub comma-is : same w t-comma ≡ is-comma t
-  pub gets-is : same w t-gets ≡ is-gets t
-  pub dot-is : same w t-dot ≡ is-dot t
-  pub name-is : is-name w ≡ is-named t
-  pub type-is : is-type w ≡ is-typed t
-  pub number-is : is-number w ≡ is-digit t
-  pub digits-is : is-digit t ≡ true → digits w ≡ is-digits t
-  pub op-is : (j : ℕ) → op-any j w ≡ op-in j t
+  pub use_is : same w k_use ≡ is_use t
+  pub kind_is : same w k_kind ≡ is_kind t
+  pub rec_is : same w k_rec ≡ is_rec t
+  pub def_is : same w k_def ≡ is_def t
+  pub let_is : same w k_let ≡ is_let t
+  pub in_is : same w k_in ≡ is_in t
+  pub if_is : same w k_if ≡ is_if t
+  pub then_is : same w k_then ≡ is_then t
+  pub else_is : same w k_else ≡ is_else t
+  pub num_is : same w k_num ≡ is_num t
+  pub bool_is : same w k_bool ≡ is_bool t
+  pub open_is : same w t_lp ≡ is_open t
+  pub close_is : same w t_rp ≡ is_close t
+  pub comma_is : same w t_comma ≡ is_comma t
+  pub gets_is : same w t_gets ≡ is_gets t
+  pub dot_is : same w t_dot ≡ is_dot t
+  pub name_is : is_name w ≡ is_named t
+  pub type_is : is_type w ≡ is_typed t
+  pub number_is : is_number w ≡ is_digit t
+  pub digits_is : is_digit t ≡ true → digits w ≡ is_digits t
+  pub op_is : (j : ℕ) → op_any j w ≡ op_in j t
 
 -- equal words
-pub same-eq : (v w : Word) → same v w ≡ true → v ≡ w
-same-eq [] [] e = refl
-same-eq [] (y ∷ ys) e = absurd (false≢true e)
-same-eq (x ∷ xs) [] e = absurd (false≢true e)
-same-eq (x ∷ xs) (y ∷ ys) e = go (eqb x y) refl (same-eq xs ys) e
+pub same_eq : (v w : Word) → same v w ≡ true → v ≡ w
+same_eq [] [] e = refl
+same_eq [] (y ∷ ys) e = absurd (false≢true e)
+same_eq (x ∷ xs) [] e = absurd (false≢true e)
+same_eq (x ∷ xs) (y ∷ ys) e = go (eqb x y) refl (same_eq xs ys) e
   where
     go : (b : Bool) → eqb x y ≡ b → (same xs ys ≡ true → xs ≡ ys) → (b && same xs ys) ≡ true → (x ∷ xs) ≡ (y ∷ ys)
     go true p t q = let h = eqb-true x y p in let r = t q in λ i. h i ∷ r i
@@ -567,8 +563,8 @@ nones false false false true e = refl
 nones false false false false true = refl
 nones false false false false false = refl
 
-one-level : (j l : ℕ) (o : Option ℕ) (f : ℕ → Option ℕ) → ((k : ℕ) → eqb k l ≡ false → f k ≡ none) → f l ≡ o → f j ≡ pick (eqb j l) o none
-one-level j l o f p q = go (eqb j l) refl
+one_level : (j l : ℕ) (o : Option ℕ) (f : ℕ → Option ℕ) → ((k : ℕ) → eqb k l ≡ false → f k ≡ none) → f l ≡ o → f j ≡ pick (eqb j l) o none
+one_level j l o f p q = go (eqb j l) refl
   where
     go : (b : Bool) → eqb j l ≡ b → f j ≡ pick b o none
     go true e = ap f (eqb-true j l e) ∙ q
@@ -577,148 +573,148 @@ one-level j l o f p q = go (eqb j l) refl
 abbrev levels : Bool → Bool → Bool → Bool → Bool → Option ℕ → Bool → Bool → Option ℕ → Bool → Option ℕ
 levels j3 j1 j2 j4 j5 c r a m t = pick j3 c (pick j1 (when1 r (some 6)) (pick j2 (when1 a (some 5)) (pick j4 m (pick j5 (when1 t (some 2)) none))))
 
-use-facts : Facts k-use Use
-use-facts = record { use-is = refl; kind-is = refl; rec-is = refl; def-is = refl; let-is = refl; in-is = refl; if-is = refl; then-is = refl; else-is = refl; num-is = refl; bool-is = refl; open-is = refl; close-is = refl; comma-is = refl; gets-is = refl; dot-is = refl; name-is = refl; type-is = refl; number-is = refl; digits-is = λ e. absurd (false≢true e); op-is = λ j. nones (eqb j 3) (eqb j 1) (eqb j 2) (eqb j 4) (eqb j 5) }
+use_facts : Facts k_use Use
+use_facts = record { use_is = refl; kind_is = refl; rec_is = refl; def_is = refl; let_is = refl; in_is = refl; if_is = refl; then_is = refl; else_is = refl; num_is = refl; bool_is = refl; open_is = refl; close_is = refl; comma_is = refl; gets_is = refl; dot_is = refl; name_is = refl; type_is = refl; number_is = refl; digits_is = λ e. absurd (false≢true e); op_is = λ j. nones (eqb j 3) (eqb j 1) (eqb j 2) (eqb j 4) (eqb j 5) }
 
-kind-facts : Facts k-kind Kind
-kind-facts = record { use-is = refl; kind-is = refl; rec-is = refl; def-is = refl; let-is = refl; in-is = refl; if-is = refl; then-is = refl; else-is = refl; num-is = refl; bool-is = refl; open-is = refl; close-is = refl; comma-is = refl; gets-is = refl; dot-is = refl; name-is = refl; type-is = refl; number-is = refl; digits-is = λ e. absurd (false≢true e); op-is = λ j. nones (eqb j 3) (eqb j 1) (eqb j 2) (eqb j 4) (eqb j 5) }
+kind_facts : Facts k_kind Kind
+kind_facts = record { use_is = refl; kind_is = refl; rec_is = refl; def_is = refl; let_is = refl; in_is = refl; if_is = refl; then_is = refl; else_is = refl; num_is = refl; bool_is = refl; open_is = refl; close_is = refl; comma_is = refl; gets_is = refl; dot_is = refl; name_is = refl; type_is = refl; number_is = refl; digits_is = λ e. absurd (false≢true e); op_is = λ j. nones (eqb j 3) (eqb j 1) (eqb j 2) (eqb j 4) (eqb j 5) }
 
-rec-facts : Facts k-rec Rec
-rec-facts = record { use-is = refl; kind-is = refl; rec-is = refl; def-is = refl; let-is = refl; in-is = refl; if-is = refl; then-is = refl; else-is = refl; num-is = refl; bool-is = refl; open-is = refl; close-is = refl; comma-is = refl; gets-is = refl; dot-is = refl; name-is = refl; type-is = refl; number-is = refl; digits-is = λ e. absurd (false≢true e); op-is = λ j. nones (eqb j 3) (eqb j 1) (eqb j 2) (eqb j 4) (eqb j 5) }
+rec_facts : Facts k_rec Rec
+rec_facts = record { use_is = refl; kind_is = refl; rec_is = refl; def_is = refl; let_is = refl; in_is = refl; if_is = refl; then_is = refl; else_is = refl; num_is = refl; bool_is = refl; open_is = refl; close_is = refl; comma_is = refl; gets_is = refl; dot_is = refl; name_is = refl; type_is = refl; number_is = refl; digits_is = λ e. absurd (false≢true e); op_is = λ j. nones (eqb j 3) (eqb j 1) (eqb j 2) (eqb j 4) (eqb j 5) }
 
-def-facts : Facts k-def Def
-def-facts = record { use-is = refl; kind-is = refl; rec-is = refl; def-is = refl; let-is = refl; in-is = refl; if-is = refl; then-is = refl; else-is = refl; num-is = refl; bool-is = refl; open-is = refl; close-is = refl; comma-is = refl; gets-is = refl; dot-is = refl; name-is = refl; type-is = refl; number-is = refl; digits-is = λ e. absurd (false≢true e); op-is = λ j. nones (eqb j 3) (eqb j 1) (eqb j 2) (eqb j 4) (eqb j 5) }
+def_facts : Facts k_def Def
+def_facts = record { use_is = refl; kind_is = refl; rec_is = refl; def_is = refl; let_is = refl; in_is = refl; if_is = refl; then_is = refl; else_is = refl; num_is = refl; bool_is = refl; open_is = refl; close_is = refl; comma_is = refl; gets_is = refl; dot_is = refl; name_is = refl; type_is = refl; number_is = refl; digits_is = λ e. absurd (false≢true e); op_is = λ j. nones (eqb j 3) (eqb j 1) (eqb j 2) (eqb j 4) (eqb j 5) }
 
-let-facts : Facts k-let Let
-let-facts = record { use-is = refl; kind-is = refl; rec-is = refl; def-is = refl; let-is = refl; in-is = refl; if-is = refl; then-is = refl; else-is = refl; num-is = refl; bool-is = refl; open-is = refl; close-is = refl; comma-is = refl; gets-is = refl; dot-is = refl; name-is = refl; type-is = refl; number-is = refl; digits-is = λ e. absurd (false≢true e); op-is = λ j. nones (eqb j 3) (eqb j 1) (eqb j 2) (eqb j 4) (eqb j 5) }
+let_facts : Facts k_let Let
+let_facts = record { use_is = refl; kind_is = refl; rec_is = refl; def_is = refl; let_is = refl; in_is = refl; if_is = refl; then_is = refl; else_is = refl; num_is = refl; bool_is = refl; open_is = refl; close_is = refl; comma_is = refl; gets_is = refl; dot_is = refl; name_is = refl; type_is = refl; number_is = refl; digits_is = λ e. absurd (false≢true e); op_is = λ j. nones (eqb j 3) (eqb j 1) (eqb j 2) (eqb j 4) (eqb j 5) }
 
-in-facts : Facts k-in In
-in-facts = record { use-is = refl; kind-is = refl; rec-is = refl; def-is = refl; let-is = refl; in-is = refl; if-is = refl; then-is = refl; else-is = refl; num-is = refl; bool-is = refl; open-is = refl; close-is = refl; comma-is = refl; gets-is = refl; dot-is = refl; name-is = refl; type-is = refl; number-is = refl; digits-is = λ e. absurd (false≢true e); op-is = λ j. nones (eqb j 3) (eqb j 1) (eqb j 2) (eqb j 4) (eqb j 5) }
+in_facts : Facts k_in In
+in_facts = record { use_is = refl; kind_is = refl; rec_is = refl; def_is = refl; let_is = refl; in_is = refl; if_is = refl; then_is = refl; else_is = refl; num_is = refl; bool_is = refl; open_is = refl; close_is = refl; comma_is = refl; gets_is = refl; dot_is = refl; name_is = refl; type_is = refl; number_is = refl; digits_is = λ e. absurd (false≢true e); op_is = λ j. nones (eqb j 3) (eqb j 1) (eqb j 2) (eqb j 4) (eqb j 5) }
 
-if-facts : Facts k-if If
-if-facts = record { use-is = refl; kind-is = refl; rec-is = refl; def-is = refl; let-is = refl; in-is = refl; if-is = refl; then-is = refl; else-is = refl; num-is = refl; bool-is = refl; open-is = refl; close-is = refl; comma-is = refl; gets-is = refl; dot-is = refl; name-is = refl; type-is = refl; number-is = refl; digits-is = λ e. absurd (false≢true e); op-is = λ j. nones (eqb j 3) (eqb j 1) (eqb j 2) (eqb j 4) (eqb j 5) }
+if_facts : Facts k_if If
+if_facts = record { use_is = refl; kind_is = refl; rec_is = refl; def_is = refl; let_is = refl; in_is = refl; if_is = refl; then_is = refl; else_is = refl; num_is = refl; bool_is = refl; open_is = refl; close_is = refl; comma_is = refl; gets_is = refl; dot_is = refl; name_is = refl; type_is = refl; number_is = refl; digits_is = λ e. absurd (false≢true e); op_is = λ j. nones (eqb j 3) (eqb j 1) (eqb j 2) (eqb j 4) (eqb j 5) }
 
-then-facts : Facts k-then Then
-then-facts = record { use-is = refl; kind-is = refl; rec-is = refl; def-is = refl; let-is = refl; in-is = refl; if-is = refl; then-is = refl; else-is = refl; num-is = refl; bool-is = refl; open-is = refl; close-is = refl; comma-is = refl; gets-is = refl; dot-is = refl; name-is = refl; type-is = refl; number-is = refl; digits-is = λ e. absurd (false≢true e); op-is = λ j. nones (eqb j 3) (eqb j 1) (eqb j 2) (eqb j 4) (eqb j 5) }
+then_facts : Facts k_then Then
+then_facts = record { use_is = refl; kind_is = refl; rec_is = refl; def_is = refl; let_is = refl; in_is = refl; if_is = refl; then_is = refl; else_is = refl; num_is = refl; bool_is = refl; open_is = refl; close_is = refl; comma_is = refl; gets_is = refl; dot_is = refl; name_is = refl; type_is = refl; number_is = refl; digits_is = λ e. absurd (false≢true e); op_is = λ j. nones (eqb j 3) (eqb j 1) (eqb j 2) (eqb j 4) (eqb j 5) }
 
-else-facts : Facts k-else Else
-else-facts = record { use-is = refl; kind-is = refl; rec-is = refl; def-is = refl; let-is = refl; in-is = refl; if-is = refl; then-is = refl; else-is = refl; num-is = refl; bool-is = refl; open-is = refl; close-is = refl; comma-is = refl; gets-is = refl; dot-is = refl; name-is = refl; type-is = refl; number-is = refl; digits-is = λ e. absurd (false≢true e); op-is = λ j. nones (eqb j 3) (eqb j 1) (eqb j 2) (eqb j 4) (eqb j 5) }
+else_facts : Facts k_else Else
+else_facts = record { use_is = refl; kind_is = refl; rec_is = refl; def_is = refl; let_is = refl; in_is = refl; if_is = refl; then_is = refl; else_is = refl; num_is = refl; bool_is = refl; open_is = refl; close_is = refl; comma_is = refl; gets_is = refl; dot_is = refl; name_is = refl; type_is = refl; number_is = refl; digits_is = λ e. absurd (false≢true e); op_is = λ j. nones (eqb j 3) (eqb j 1) (eqb j 2) (eqb j 4) (eqb j 5) }
 
-and-facts : Facts k-and (Sign And)
-and-facts = record { use-is = refl; kind-is = refl; rec-is = refl; def-is = refl; let-is = refl; in-is = refl; if-is = refl; then-is = refl; else-is = refl; num-is = refl; bool-is = refl; open-is = refl; close-is = refl; comma-is = refl; gets-is = refl; dot-is = refl; name-is = refl; type-is = refl; number-is = refl; digits-is = λ e. absurd (false≢true e); op-is = λ j. one-level j 2 (some 5) (λ j. op-any j k-and) (λ k e. ap (λ b. pick (eqb k 3) none (pick (eqb k 1) none (pick b (some 5) (pick (eqb k 4) none (pick (eqb k 5) none none))))) e ∙ nones (eqb k 3) (eqb k 1) false (eqb k 4) (eqb k 5)) refl }
+and_facts : Facts k_and (Sign And)
+and_facts = record { use_is = refl; kind_is = refl; rec_is = refl; def_is = refl; let_is = refl; in_is = refl; if_is = refl; then_is = refl; else_is = refl; num_is = refl; bool_is = refl; open_is = refl; close_is = refl; comma_is = refl; gets_is = refl; dot_is = refl; name_is = refl; type_is = refl; number_is = refl; digits_is = λ e. absurd (false≢true e); op_is = λ j. one_level j 2 (some 5) (λ j. op_any j k_and) (λ k e. ap (λ b. pick (eqb k 3) none (pick (eqb k 1) none (pick b (some 5) (pick (eqb k 4) none (pick (eqb k 5) none none))))) e ∙ nones (eqb k 3) (eqb k 1) false (eqb k 4) (eqb k 5)) refl }
 
-or-facts : Facts k-or (Sign Or)
-or-facts = record { use-is = refl; kind-is = refl; rec-is = refl; def-is = refl; let-is = refl; in-is = refl; if-is = refl; then-is = refl; else-is = refl; num-is = refl; bool-is = refl; open-is = refl; close-is = refl; comma-is = refl; gets-is = refl; dot-is = refl; name-is = refl; type-is = refl; number-is = refl; digits-is = λ e. absurd (false≢true e); op-is = λ j. one-level j 1 (some 6) (λ j. op-any j k-or) (λ k e. ap (λ b. pick (eqb k 3) none (pick b (some 6) (pick (eqb k 2) none (pick (eqb k 4) none (pick (eqb k 5) none none))))) e ∙ nones (eqb k 3) false (eqb k 2) (eqb k 4) (eqb k 5)) refl }
+or_facts : Facts k_or (Sign Or)
+or_facts = record { use_is = refl; kind_is = refl; rec_is = refl; def_is = refl; let_is = refl; in_is = refl; if_is = refl; then_is = refl; else_is = refl; num_is = refl; bool_is = refl; open_is = refl; close_is = refl; comma_is = refl; gets_is = refl; dot_is = refl; name_is = refl; type_is = refl; number_is = refl; digits_is = λ e. absurd (false≢true e); op_is = λ j. one_level j 1 (some 6) (λ j. op_any j k_or) (λ k e. ap (λ b. pick (eqb k 3) none (pick b (some 6) (pick (eqb k 2) none (pick (eqb k 4) none (pick (eqb k 5) none none))))) e ∙ nones (eqb k 3) false (eqb k 2) (eqb k 4) (eqb k 5)) refl }
 
-num-facts : Facts k-num Num
-num-facts = record { use-is = refl; kind-is = refl; rec-is = refl; def-is = refl; let-is = refl; in-is = refl; if-is = refl; then-is = refl; else-is = refl; num-is = refl; bool-is = refl; open-is = refl; close-is = refl; comma-is = refl; gets-is = refl; dot-is = refl; name-is = refl; type-is = refl; number-is = refl; digits-is = λ e. absurd (false≢true e); op-is = λ j. nones (eqb j 3) (eqb j 1) (eqb j 2) (eqb j 4) (eqb j 5) }
+num_facts : Facts k_num Num
+num_facts = record { use_is = refl; kind_is = refl; rec_is = refl; def_is = refl; let_is = refl; in_is = refl; if_is = refl; then_is = refl; else_is = refl; num_is = refl; bool_is = refl; open_is = refl; close_is = refl; comma_is = refl; gets_is = refl; dot_is = refl; name_is = refl; type_is = refl; number_is = refl; digits_is = λ e. absurd (false≢true e); op_is = λ j. nones (eqb j 3) (eqb j 1) (eqb j 2) (eqb j 4) (eqb j 5) }
 
-bool-facts : Facts k-bool TypeBool
-bool-facts = record { use-is = refl; kind-is = refl; rec-is = refl; def-is = refl; let-is = refl; in-is = refl; if-is = refl; then-is = refl; else-is = refl; num-is = refl; bool-is = refl; open-is = refl; close-is = refl; comma-is = refl; gets-is = refl; dot-is = refl; name-is = refl; type-is = refl; number-is = refl; digits-is = λ e. absurd (false≢true e); op-is = λ j. nones (eqb j 3) (eqb j 1) (eqb j 2) (eqb j 4) (eqb j 5) }
+bool_facts : Facts k_bool TypeBool
+bool_facts = record { use_is = refl; kind_is = refl; rec_is = refl; def_is = refl; let_is = refl; in_is = refl; if_is = refl; then_is = refl; else_is = refl; num_is = refl; bool_is = refl; open_is = refl; close_is = refl; comma_is = refl; gets_is = refl; dot_is = refl; name_is = refl; type_is = refl; number_is = refl; digits_is = λ e. absurd (false≢true e); op_is = λ j. nones (eqb j 3) (eqb j 1) (eqb j 2) (eqb j 4) (eqb j 5) }
 
-open-facts : Facts t-lp Open
-open-facts = record { use-is = refl; kind-is = refl; rec-is = refl; def-is = refl; let-is = refl; in-is = refl; if-is = refl; then-is = refl; else-is = refl; num-is = refl; bool-is = refl; open-is = refl; close-is = refl; comma-is = refl; gets-is = refl; dot-is = refl; name-is = refl; type-is = refl; number-is = refl; digits-is = λ e. absurd (false≢true e); op-is = λ j. nones (eqb j 3) (eqb j 1) (eqb j 2) (eqb j 4) (eqb j 5) }
+open_facts : Facts t_lp Open
+open_facts = record { use_is = refl; kind_is = refl; rec_is = refl; def_is = refl; let_is = refl; in_is = refl; if_is = refl; then_is = refl; else_is = refl; num_is = refl; bool_is = refl; open_is = refl; close_is = refl; comma_is = refl; gets_is = refl; dot_is = refl; name_is = refl; type_is = refl; number_is = refl; digits_is = λ e. absurd (false≢true e); op_is = λ j. nones (eqb j 3) (eqb j 1) (eqb j 2) (eqb j 4) (eqb j 5) }
 
-close-facts : Facts t-rp Close
-close-facts = record { use-is = refl; kind-is = refl; rec-is = refl; def-is = refl; let-is = refl; in-is = refl; if-is = refl; then-is = refl; else-is = refl; num-is = refl; bool-is = refl; open-is = refl; close-is = refl; comma-is = refl; gets-is = refl; dot-is = refl; name-is = refl; type-is = refl; number-is = refl; digits-is = λ e. absurd (false≢true e); op-is = λ j. nones (eqb j 3) (eqb j 1) (eqb j 2) (eqb j 4) (eqb j 5) }
+close_facts : Facts t_rp Close
+close_facts = record { use_is = refl; kind_is = refl; rec_is = refl; def_is = refl; let_is = refl; in_is = refl; if_is = refl; then_is = refl; else_is = refl; num_is = refl; bool_is = refl; open_is = refl; close_is = refl; comma_is = refl; gets_is = refl; dot_is = refl; name_is = refl; type_is = refl; number_is = refl; digits_is = λ e. absurd (false≢true e); op_is = λ j. nones (eqb j 3) (eqb j 1) (eqb j 2) (eqb j 4) (eqb j 5) }
 
-comma-facts : Facts t-comma Comma
-comma-facts = record { use-is = refl; kind-is = refl; rec-is = refl; def-is = refl; let-is = refl; in-is = refl; if-is = refl; then-is = refl; else-is = refl; num-is = refl; bool-is = refl; open-is = refl; close-is = refl; comma-is = refl; gets-is = refl; dot-is = refl; name-is = refl; type-is = refl; number-is = refl; digits-is = λ e. absurd (false≢true e); op-is = λ j. nones (eqb j 3) (eqb j 1) (eqb j 2) (eqb j 4) (eqb j 5) }
+comma_facts : Facts t_comma Comma
+comma_facts = record { use_is = refl; kind_is = refl; rec_is = refl; def_is = refl; let_is = refl; in_is = refl; if_is = refl; then_is = refl; else_is = refl; num_is = refl; bool_is = refl; open_is = refl; close_is = refl; comma_is = refl; gets_is = refl; dot_is = refl; name_is = refl; type_is = refl; number_is = refl; digits_is = λ e. absurd (false≢true e); op_is = λ j. nones (eqb j 3) (eqb j 1) (eqb j 2) (eqb j 4) (eqb j 5) }
 
-gets-facts : Facts t-gets Gets
-gets-facts = record { use-is = refl; kind-is = refl; rec-is = refl; def-is = refl; let-is = refl; in-is = refl; if-is = refl; then-is = refl; else-is = refl; num-is = refl; bool-is = refl; open-is = refl; close-is = refl; comma-is = refl; gets-is = refl; dot-is = refl; name-is = refl; type-is = refl; number-is = refl; digits-is = λ e. absurd (false≢true e); op-is = λ j. nones (eqb j 3) (eqb j 1) (eqb j 2) (eqb j 4) (eqb j 5) }
+gets_facts : Facts t_gets Gets
+gets_facts = record { use_is = refl; kind_is = refl; rec_is = refl; def_is = refl; let_is = refl; in_is = refl; if_is = refl; then_is = refl; else_is = refl; num_is = refl; bool_is = refl; open_is = refl; close_is = refl; comma_is = refl; gets_is = refl; dot_is = refl; name_is = refl; type_is = refl; number_is = refl; digits_is = λ e. absurd (false≢true e); op_is = λ j. nones (eqb j 3) (eqb j 1) (eqb j 2) (eqb j 4) (eqb j 5) }
 
-dot-facts : Facts t-dot Dot
-dot-facts = record { use-is = refl; kind-is = refl; rec-is = refl; def-is = refl; let-is = refl; in-is = refl; if-is = refl; then-is = refl; else-is = refl; num-is = refl; bool-is = refl; open-is = refl; close-is = refl; comma-is = refl; gets-is = refl; dot-is = refl; name-is = refl; type-is = refl; number-is = refl; digits-is = λ e. absurd (false≢true e); op-is = λ j. nones (eqb j 3) (eqb j 1) (eqb j 2) (eqb j 4) (eqb j 5) }
+dot_facts : Facts t_dot Dot
+dot_facts = record { use_is = refl; kind_is = refl; rec_is = refl; def_is = refl; let_is = refl; in_is = refl; if_is = refl; then_is = refl; else_is = refl; num_is = refl; bool_is = refl; open_is = refl; close_is = refl; comma_is = refl; gets_is = refl; dot_is = refl; name_is = refl; type_is = refl; number_is = refl; digits_is = λ e. absurd (false≢true e); op_is = λ j. nones (eqb j 3) (eqb j 1) (eqb j 2) (eqb j 4) (eqb j 5) }
 
-is-facts : Facts t-is (Sign Equal)
-is-facts = record { use-is = refl; kind-is = refl; rec-is = refl; def-is = refl; let-is = refl; in-is = refl; if-is = refl; then-is = refl; else-is = refl; num-is = refl; bool-is = refl; open-is = refl; close-is = refl; comma-is = refl; gets-is = refl; dot-is = refl; name-is = refl; type-is = refl; number-is = refl; digits-is = λ e. absurd (false≢true e); op-is = λ j. one-level j 3 (some 3) (λ j. op-any j t-is) (λ k e. ap (λ b. pick b (some 3) (pick (eqb k 1) none (pick (eqb k 2) none (pick (eqb k 4) none (pick (eqb k 5) none none))))) e ∙ nones false (eqb k 1) (eqb k 2) (eqb k 4) (eqb k 5)) refl }
+is_facts : Facts t_is (Sign Equal)
+is_facts = record { use_is = refl; kind_is = refl; rec_is = refl; def_is = refl; let_is = refl; in_is = refl; if_is = refl; then_is = refl; else_is = refl; num_is = refl; bool_is = refl; open_is = refl; close_is = refl; comma_is = refl; gets_is = refl; dot_is = refl; name_is = refl; type_is = refl; number_is = refl; digits_is = λ e. absurd (false≢true e); op_is = λ j. one_level j 3 (some 3) (λ j. op_any j t_is) (λ k e. ap (λ b. pick b (some 3) (pick (eqb k 1) none (pick (eqb k 2) none (pick (eqb k 4) none (pick (eqb k 5) none none))))) e ∙ nones false (eqb k 1) (eqb k 2) (eqb k 4) (eqb k 5)) refl }
 
-less-facts : Facts t-less (Sign Less)
-less-facts = record { use-is = refl; kind-is = refl; rec-is = refl; def-is = refl; let-is = refl; in-is = refl; if-is = refl; then-is = refl; else-is = refl; num-is = refl; bool-is = refl; open-is = refl; close-is = refl; comma-is = refl; gets-is = refl; dot-is = refl; name-is = refl; type-is = refl; number-is = refl; digits-is = λ e. absurd (false≢true e); op-is = λ j. one-level j 3 (some 4) (λ j. op-any j t-less) (λ k e. ap (λ b. pick b (some 4) (pick (eqb k 1) none (pick (eqb k 2) none (pick (eqb k 4) none (pick (eqb k 5) none none))))) e ∙ nones false (eqb k 1) (eqb k 2) (eqb k 4) (eqb k 5)) refl }
+less_facts : Facts t_less (Sign Less)
+less_facts = record { use_is = refl; kind_is = refl; rec_is = refl; def_is = refl; let_is = refl; in_is = refl; if_is = refl; then_is = refl; else_is = refl; num_is = refl; bool_is = refl; open_is = refl; close_is = refl; comma_is = refl; gets_is = refl; dot_is = refl; name_is = refl; type_is = refl; number_is = refl; digits_is = λ e. absurd (false≢true e); op_is = λ j. one_level j 3 (some 4) (λ j. op_any j t_less) (λ k e. ap (λ b. pick b (some 4) (pick (eqb k 1) none (pick (eqb k 2) none (pick (eqb k 4) none (pick (eqb k 5) none none))))) e ∙ nones false (eqb k 1) (eqb k 2) (eqb k 4) (eqb k 5)) refl }
 
-plus-facts : Facts t-plus (Sign Plus)
-plus-facts = record { use-is = refl; kind-is = refl; rec-is = refl; def-is = refl; let-is = refl; in-is = refl; if-is = refl; then-is = refl; else-is = refl; num-is = refl; bool-is = refl; open-is = refl; close-is = refl; comma-is = refl; gets-is = refl; dot-is = refl; name-is = refl; type-is = refl; number-is = refl; digits-is = λ e. absurd (false≢true e); op-is = λ j. one-level j 4 (some 0) (λ j. op-any j t-plus) (λ k e. ap (λ b. pick (eqb k 3) none (pick (eqb k 1) none (pick (eqb k 2) none (pick b (some 0) (pick (eqb k 5) none none))))) e ∙ nones (eqb k 3) (eqb k 1) (eqb k 2) false (eqb k 5)) refl }
+plus_facts : Facts t_plus (Sign Plus)
+plus_facts = record { use_is = refl; kind_is = refl; rec_is = refl; def_is = refl; let_is = refl; in_is = refl; if_is = refl; then_is = refl; else_is = refl; num_is = refl; bool_is = refl; open_is = refl; close_is = refl; comma_is = refl; gets_is = refl; dot_is = refl; name_is = refl; type_is = refl; number_is = refl; digits_is = λ e. absurd (false≢true e); op_is = λ j. one_level j 4 (some 0) (λ j. op_any j t_plus) (λ k e. ap (λ b. pick (eqb k 3) none (pick (eqb k 1) none (pick (eqb k 2) none (pick b (some 0) (pick (eqb k 5) none none))))) e ∙ nones (eqb k 3) (eqb k 1) (eqb k 2) false (eqb k 5)) refl }
 
-minus-facts : Facts t-minus (Sign Minus)
-minus-facts = record { use-is = refl; kind-is = refl; rec-is = refl; def-is = refl; let-is = refl; in-is = refl; if-is = refl; then-is = refl; else-is = refl; num-is = refl; bool-is = refl; open-is = refl; close-is = refl; comma-is = refl; gets-is = refl; dot-is = refl; name-is = refl; type-is = refl; number-is = refl; digits-is = λ e. absurd (false≢true e); op-is = λ j. one-level j 4 (some 1) (λ j. op-any j t-minus) (λ k e. ap (λ b. pick (eqb k 3) none (pick (eqb k 1) none (pick (eqb k 2) none (pick b (some 1) (pick (eqb k 5) none none))))) e ∙ nones (eqb k 3) (eqb k 1) (eqb k 2) false (eqb k 5)) refl }
+minus_facts : Facts t_minus (Sign Minus)
+minus_facts = record { use_is = refl; kind_is = refl; rec_is = refl; def_is = refl; let_is = refl; in_is = refl; if_is = refl; then_is = refl; else_is = refl; num_is = refl; bool_is = refl; open_is = refl; close_is = refl; comma_is = refl; gets_is = refl; dot_is = refl; name_is = refl; type_is = refl; number_is = refl; digits_is = λ e. absurd (false≢true e); op_is = λ j. one_level j 4 (some 1) (λ j. op_any j t_minus) (λ k e. ap (λ b. pick (eqb k 3) none (pick (eqb k 1) none (pick (eqb k 2) none (pick b (some 1) (pick (eqb k 5) none none))))) e ∙ nones (eqb k 3) (eqb k 1) (eqb k 2) false (eqb k 5)) refl }
 
-times-facts : Facts t-times (Sign Times)
-times-facts = record { use-is = refl; kind-is = refl; rec-is = refl; def-is = refl; let-is = refl; in-is = refl; if-is = refl; then-is = refl; else-is = refl; num-is = refl; bool-is = refl; open-is = refl; close-is = refl; comma-is = refl; gets-is = refl; dot-is = refl; name-is = refl; type-is = refl; number-is = refl; digits-is = λ e. absurd (false≢true e); op-is = λ j. one-level j 5 (some 2) (λ j. op-any j t-times) (λ k e. ap (λ b. pick (eqb k 3) none (pick (eqb k 1) none (pick (eqb k 2) none (pick (eqb k 4) none (pick b (some 2) none))))) e ∙ nones (eqb k 3) (eqb k 1) (eqb k 2) (eqb k 4) false) refl }
+times_facts : Facts t_times (Sign Times)
+times_facts = record { use_is = refl; kind_is = refl; rec_is = refl; def_is = refl; let_is = refl; in_is = refl; if_is = refl; then_is = refl; else_is = refl; num_is = refl; bool_is = refl; open_is = refl; close_is = refl; comma_is = refl; gets_is = refl; dot_is = refl; name_is = refl; type_is = refl; number_is = refl; digits_is = λ e. absurd (false≢true e); op_is = λ j. one_level j 5 (some 2) (λ j. op_any j t_times) (λ k e. ap (λ b. pick (eqb k 3) none (pick (eqb k 1) none (pick (eqb k 2) none (pick (eqb k 4) none (pick b (some 2) none))))) e ∙ nones (eqb k 3) (eqb k 1) (eqb k 2) (eqb k 4) false) refl }
 
-end-facts : Facts [] End
-end-facts = record { use-is = refl; kind-is = refl; rec-is = refl; def-is = refl; let-is = refl; in-is = refl; if-is = refl; then-is = refl; else-is = refl; num-is = refl; bool-is = refl; open-is = refl; close-is = refl; comma-is = refl; gets-is = refl; dot-is = refl; name-is = refl; type-is = refl; number-is = refl; digits-is = λ e. absurd (false≢true e); op-is = λ j. nones (eqb j 3) (eqb j 1) (eqb j 2) (eqb j 4) (eqb j 5) }
+end_facts : Facts [] End
+end_facts = record { use_is = refl; kind_is = refl; rec_is = refl; def_is = refl; let_is = refl; in_is = refl; if_is = refl; then_is = refl; else_is = refl; num_is = refl; bool_is = refl; open_is = refl; close_is = refl; comma_is = refl; gets_is = refl; dot_is = refl; name_is = refl; type_is = refl; number_is = refl; digits_is = λ e. absurd (false≢true e); op_is = λ j. nones (eqb j 3) (eqb j 1) (eqb j 2) (eqb j 4) (eqb j 5) }
 
-none-left : (a : Bool) → (a && false) ≡ false
-none-left true = refl
-none-left false = refl
+none_left : (a : Bool) → (a && false) ≡ false
+none_left true = refl
+none_left false = refl
 
 -- a word that is none of the fixed ones
-module _ (w : Word) (h-use : same w k-use ≡ false) (h-kind : same w k-kind ≡ false) (h-rec : same w k-rec ≡ false) (h-def : same w k-def ≡ false) (h-let : same w k-let ≡ false) (h-in : same w k-in ≡ false) (h-if : same w k-if ≡ false) (h-then : same w k-then ≡ false) (h-else : same w k-else ≡ false) (h-and : same w k-and ≡ false) (h-or : same w k-or ≡ false) (h-num : same w k-num ≡ false) (h-bool : same w k-bool ≡ false) (h-open : same w t-lp ≡ false) (h-close : same w t-rp ≡ false) (h-comma : same w t-comma ≡ false) (h-gets : same w t-gets ≡ false) (h-dot : same w t-dot ≡ false) (h-is : same w t-is ≡ false) (h-less : same w t-less ≡ false) (h-plus : same w t-plus ≡ false) (h-minus : same w t-minus ≡ false) (h-times : same w t-times ≡ false) where
-  not-kept : among w kept ≡ false
-  not-kept = λ i. h-use i || (h-kind i || (h-rec i || (h-def i || (h-let i || (h-in i || (h-if i || (h-then i || (h-else i || (h-and i || (h-or i || (h-num i || (h-bool i || (false)))))))))))))
+module _ (w : Word) (h_use : same w k_use ≡ false) (h_kind : same w k_kind ≡ false) (h_rec : same w k_rec ≡ false) (h_def : same w k_def ≡ false) (h_let : same w k_let ≡ false) (h_in : same w k_in ≡ false) (h_if : same w k_if ≡ false) (h_then : same w k_then ≡ false) (h_else : same w k_else ≡ false) (h_and : same w k_and ≡ false) (h_or : same w k_or ≡ false) (h_num : same w k_num ≡ false) (h_bool : same w k_bool ≡ false) (h_open : same w t_lp ≡ false) (h_close : same w t_rp ≡ false) (h_comma : same w t_comma ≡ false) (h_gets : same w t_gets ≡ false) (h_dot : same w t_dot ≡ false) (h_is : same w t_is ≡ false) (h_less : same w t_less ≡ false) (h_plus : same w t_plus ≡ false) (h_minus : same w t_minus ≡ false) (h_times : same w t_times ≡ false) where
+  not_kept : among w kept ≡ false
+  not_kept = λ i. h_use i || (h_kind i || (h_rec i || (h_def i || (h_let i || (h_in i || (h_if i || (h_then i || (h_else i || (h_and i || (h_or i || (h_num i || (h_bool i || (false)))))))))))))
 
-  no-op : (j : ℕ) → op-any j w ≡ none
-  no-op j = (λ i. levels (eqb j 3) (eqb j 1) (eqb j 2) (eqb j 4) (eqb j 5) (or-else (when1 (h-is i) (some 3)) (when1 (h-less i) (some 4))) (h-or i) (h-and i) (or-else (when1 (h-plus i) (some 0)) (when1 (h-minus i) (some 1))) (h-times i)) ∙ nones (eqb j 3) (eqb j 1) (eqb j 2) (eqb j 4) (eqb j 5)
+  no_op : (j : ℕ) → op_any j w ≡ none
+  no_op j = (λ i. levels (eqb j 3) (eqb j 1) (eqb j 2) (eqb j 4) (eqb j 5) (or_else (when1 (h_is i) (some 3)) (when1 (h_less i) (some 4))) (h_or i) (h_and i) (or_else (when1 (h_plus i) (some 0)) (when1 (h_minus i) (some 1))) (h_times i)) ∙ nones (eqb j 3) (eqb j 1) (eqb j 2) (eqb j 4) (eqb j 5)
 
-  plain-name : (a b : Bool) → letter (first w) ≡ a → is-number w ≡ b → is-name w ≡ (a && not b)
-  plain-name a b p q = (λ i. p i && (not (q i) && not (not-kept i))) ∙ and-true a (not b)
+  plain_name : (a b : Bool) → letter (first w) ≡ a → is_number w ≡ b → is_name w ≡ (a && not b)
+  plain_name a b p q = (λ i. p i && (not (q i) && not (not_kept i))) ∙ and_true a (not b)
     where
-      and-true : (a b : Bool) → (a && (b && true)) ≡ (a && b)
-      and-true true true = refl
-      and-true true false = refl
-      and-true false b = refl
+      and_true : (a b : Bool) → (a && (b && true)) ≡ (a && b)
+      and_true true true = refl
+      and_true true false = refl
+      and_true false b = refl
 
-  plain-type : (c : Bool) → is-name w ≡ c → is-type w ≡ c
-  plain-type c p = λ i. h-num i || (h-bool i || p i)
+  plain_type : (c : Bool) → is_name w ≡ c → is_type w ≡ c
+  plain_type c p = λ i. h_num i || (h_bool i || p i)
 
-  number-facts : is-number w ≡ true → digits w ≡ true → Facts w Number
-  number-facts p q = record { use-is = h-use; kind-is = h-kind; rec-is = h-rec; def-is = h-def; let-is = h-let; in-is = h-in; if-is = h-if; then-is = h-then; else-is = h-else; num-is = h-num; bool-is = h-bool; open-is = h-open; close-is = h-close; comma-is = h-comma; gets-is = h-gets; dot-is = h-dot; name-is = nam; type-is = plain-type false nam; number-is = p; digits-is = λ e. q; op-is = no-op }
+  number_facts : is_number w ≡ true → digits w ≡ true → Facts w Number
+  number_facts p q = record { use_is = h_use; kind_is = h_kind; rec_is = h_rec; def_is = h_def; let_is = h_let; in_is = h_in; if_is = h_if; then_is = h_then; else_is = h_else; num_is = h_num; bool_is = h_bool; open_is = h_open; close_is = h_close; comma_is = h_comma; gets_is = h_gets; dot_is = h_dot; name_is = nam; type_is = plain_type false nam; number_is = p; digits_is = λ e. q; op_is = no_op }
     where
-      nam : is-name w ≡ false
-      nam = plain-name (letter (first w)) true refl p ∙ none-left (letter (first w))
+      nam : is_name w ≡ false
+      nam = plain_name (letter (first w)) true refl p ∙ none_left (letter (first w))
 
-  bad-facts : is-number w ≡ true → digits w ≡ false → Facts w BadNumber
-  bad-facts p q = record { use-is = h-use; kind-is = h-kind; rec-is = h-rec; def-is = h-def; let-is = h-let; in-is = h-in; if-is = h-if; then-is = h-then; else-is = h-else; num-is = h-num; bool-is = h-bool; open-is = h-open; close-is = h-close; comma-is = h-comma; gets-is = h-gets; dot-is = h-dot; name-is = nam; type-is = plain-type false nam; number-is = p; digits-is = λ e. q; op-is = no-op }
+  bad_facts : is_number w ≡ true → digits w ≡ false → Facts w BadNumber
+  bad_facts p q = record { use_is = h_use; kind_is = h_kind; rec_is = h_rec; def_is = h_def; let_is = h_let; in_is = h_in; if_is = h_if; then_is = h_then; else_is = h_else; num_is = h_num; bool_is = h_bool; open_is = h_open; close_is = h_close; comma_is = h_comma; gets_is = h_gets; dot_is = h_dot; name_is = nam; type_is = plain_type false nam; number_is = p; digits_is = λ e. q; op_is = no_op }
     where
-      nam : is-name w ≡ false
-      nam = plain-name (letter (first w)) true refl p ∙ none-left (letter (first w))
+      nam : is_name w ≡ false
+      nam = plain_name (letter (first w)) true refl p ∙ none_left (letter (first w))
 
-  name-facts : is-number w ≡ false → letter (first w) ≡ true → Facts w Name
-  name-facts p q = record { use-is = h-use; kind-is = h-kind; rec-is = h-rec; def-is = h-def; let-is = h-let; in-is = h-in; if-is = h-if; then-is = h-then; else-is = h-else; num-is = h-num; bool-is = h-bool; open-is = h-open; close-is = h-close; comma-is = h-comma; gets-is = h-gets; dot-is = h-dot; name-is = plain-name true false q p; type-is = plain-type true (plain-name true false q p); number-is = p; digits-is = λ e. absurd (false≢true e); op-is = no-op }
+  name_facts : is_number w ≡ false → letter (first w) ≡ true → Facts w Name
+  name_facts p q = record { use_is = h_use; kind_is = h_kind; rec_is = h_rec; def_is = h_def; let_is = h_let; in_is = h_in; if_is = h_if; then_is = h_then; else_is = h_else; num_is = h_num; bool_is = h_bool; open_is = h_open; close_is = h_close; comma_is = h_comma; gets_is = h_gets; dot_is = h_dot; name_is = plain_name true false q p; type_is = plain_type true (plain_name true false q p); number_is = p; digits_is = λ e. absurd (false≢true e); op_is = no_op }
 
-  other-facts : is-number w ≡ false → letter (first w) ≡ false → Facts w Other
-  other-facts p q = record { use-is = h-use; kind-is = h-kind; rec-is = h-rec; def-is = h-def; let-is = h-let; in-is = h-in; if-is = h-if; then-is = h-then; else-is = h-else; num-is = h-num; bool-is = h-bool; open-is = h-open; close-is = h-close; comma-is = h-comma; gets-is = h-gets; dot-is = h-dot; name-is = plain-name false false q p; type-is = plain-type false (plain-name false false q p); number-is = p; digits-is = λ e. absurd (false≢true e); op-is = no-op }
+  other_facts : is_number w ≡ false → letter (first w) ≡ false → Facts w Other
+  other_facts p q = record { use_is = h_use; kind_is = h_kind; rec_is = h_rec; def_is = h_def; let_is = h_let; in_is = h_in; if_is = h_if; then_is = h_then; else_is = h_else; num_is = h_num; bool_is = h_bool; open_is = h_open; close_is = h_close; comma_is = h_comma; gets_is = h_gets; dot_is = h_dot; name_is = plain_name false false q p; type_is = plain_type false (plain_name false false q p); number_is = p; digits_is = λ e. absurd (false≢true e); op_is = no_op }
 
-by-pick : (P : Token → Type 0) (b : Bool) (x y : Token) → (b ≡ true → P x) → (b ≡ false → P y) → P (pick b x y)
-by-pick P true x y p q = p refl
-by-pick P false x y p q = q refl
+by_pick : (P : Token → Type 0) (b : Bool) (x y : Token) → (b ≡ true → P x) → (b ≡ false → P y) → P (pick b x y)
+by_pick P true x y p q = p refl
+by_pick P false x y p q = q refl
 
-pub facts : (w : Word) → Facts w (token-of w)
-facts [] = end-facts
+pub facts : (w : Word) → Facts w (token_of w)
+facts [] = end_facts
 facts (c ∷ cs) =
-    by-pick (Facts (c ∷ cs)) (same (c ∷ cs) k-use) _ _ (λ e. subst (λ v. Facts v Use) (sym (same-eq (c ∷ cs) k-use e)) use-facts) (λ h-use.
-    by-pick (Facts (c ∷ cs)) (same (c ∷ cs) k-kind) _ _ (λ e. subst (λ v. Facts v Kind) (sym (same-eq (c ∷ cs) k-kind e)) kind-facts) (λ h-kind.
-    by-pick (Facts (c ∷ cs)) (same (c ∷ cs) k-rec) _ _ (λ e. subst (λ v. Facts v Rec) (sym (same-eq (c ∷ cs) k-rec e)) rec-facts) (λ h-rec.
-    by-pick (Facts (c ∷ cs)) (same (c ∷ cs) k-def) _ _ (λ e. subst (λ v. Facts v Def) (sym (same-eq (c ∷ cs) k-def e)) def-facts) (λ h-def.
-    by-pick (Facts (c ∷ cs)) (same (c ∷ cs) k-let) _ _ (λ e. subst (λ v. Facts v Let) (sym (same-eq (c ∷ cs) k-let e)) let-facts) (λ h-let.
-    by-pick (Facts (c ∷ cs)) (same (c ∷ cs) k-in) _ _ (λ e. subst (λ v. Facts v In) (sym (same-eq (c ∷ cs) k-in e)) in-facts) (λ h-in.
-    by-pick (Facts (c ∷ cs)) (same (c ∷ cs) k-if) _ _ (λ e. subst (λ v. Facts v If) (sym (same-eq (c ∷ cs) k-if e)) if-facts) (λ h-if.
-    by-pick (Facts (c ∷ cs)) (same (c ∷ cs) k-then) _ _ (λ e. subst (λ v. Facts v Then) (sym (same-eq (c ∷ cs) k-then e)) then-facts) (λ h-then.
-    by-pick (Facts (c ∷ cs)) (same (c ∷ cs) k-else) _ _ (λ e. subst (λ v. Facts v Else) (sym (same-eq (c ∷ cs) k-else e)) else-facts) (λ h-else.
-    by-pick (Facts (c ∷ cs)) (same (c ∷ cs) k-and) _ _ (λ e. subst (λ v. Facts v (Sign And)) (sym (same-eq (c ∷ cs) k-and e)) and-facts) (λ h-and.
-    by-pick (Facts (c ∷ cs)) (same (c ∷ cs) k-or) _ _ (λ e. subst (λ v. Facts v (Sign Or)) (sym (same-eq (c ∷ cs) k-or e)) or-facts) (λ h-or.
-    by-pick (Facts (c ∷ cs)) (same (c ∷ cs) k-num) _ _ (λ e. subst (λ v. Facts v Num) (sym (same-eq (c ∷ cs) k-num e)) num-facts) (λ h-num.
-    by-pick (Facts (c ∷ cs)) (same (c ∷ cs) k-bool) _ _ (λ e. subst (λ v. Facts v TypeBool) (sym (same-eq (c ∷ cs) k-bool e)) bool-facts) (λ h-bool.
-    by-pick (Facts (c ∷ cs)) (same (c ∷ cs) t-lp) _ _ (λ e. subst (λ v. Facts v Open) (sym (same-eq (c ∷ cs) t-lp e)) open-facts) (λ h-open.
-    by-pick (Facts (c ∷ cs)) (same (c ∷ cs) t-rp) _ _ (λ e. subst (λ v. Facts v Close) (sym (same-eq (c ∷ cs) t-rp e)) close-facts) (λ h-close.
-    by-pick (Facts (c ∷ cs)) (same (c ∷ cs) t-comma) _ _ (λ e. subst (λ v. Facts v Comma) (sym (same-eq (c ∷ cs) t-comma e)) comma-facts) (λ h-comma.
-    by-pick (Facts (c ∷ cs)) (same (c ∷ cs) t-gets) _ _ (λ e. subst (λ v. Facts v Gets) (sym (same-eq (c ∷ cs) t-gets e)) gets-facts) (λ h-gets.
-    by-pick (Facts (c ∷ cs)) (same (c ∷ cs) t-dot) _ _ (λ e. subst (λ v. Facts v Dot) (sym (same-eq (c ∷ cs) t-dot e)) dot-facts) (λ h-dot.
-    by-pick (Facts (c ∷ cs)) (same (c ∷ cs) t-is) _ _ (λ e. subst (λ v. Facts v (Sign Equal)) (sym (same-eq (c ∷ cs) t-is e)) is-facts) (λ h-is.
-    by-pick (Facts (c ∷ cs)) (same (c ∷ cs) t-less) _ _ (λ e. subst (λ v. Facts v (Sign Less)) (sym (same-eq (c ∷ cs) t-less e)) less-facts) (λ h-less.
-    by-pick (Facts (c ∷ cs)) (same (c ∷ cs) t-plus) _ _ (λ e. subst (λ v. Facts v (Sign Plus)) (sym (same-eq (c ∷ cs) t-plus e)) plus-facts) (λ h-plus.
-    by-pick (Facts (c ∷ cs)) (same (c ∷ cs) t-minus) _ _ (λ e. subst (λ v. Facts v (Sign Minus)) (sym (same-eq (c ∷ cs) t-minus e)) minus-facts) (λ h-minus.
-    by-pick (Facts (c ∷ cs)) (same (c ∷ cs) t-times) _ _ (λ e. subst (λ v. Facts v (Sign Times)) (sym (same-eq (c ∷ cs) t-times e)) times-facts) (λ h-times.
-    by-pick (Facts (c ∷ cs)) (is-number (c ∷ cs)) _ _ (λ p. by-pick (Facts (c ∷ cs)) (digits (c ∷ cs)) _ _ (λ q. number-facts (c ∷ cs) h-use h-kind h-rec h-def h-let h-in h-if h-then h-else h-and h-or h-num h-bool h-open h-close h-comma h-gets h-dot h-is h-less h-plus h-minus h-times p q) (λ q. bad-facts (c ∷ cs) h-use h-kind h-rec h-def h-let h-in h-if h-then h-else h-and h-or h-num h-bool h-open h-close h-comma h-gets h-dot h-is h-less h-plus h-minus h-times p q))
-    (λ p. by-pick (Facts (c ∷ cs)) (letter c) _ _ (λ q. name-facts (c ∷ cs) h-use h-kind h-rec h-def h-let h-in h-if h-then h-else h-and h-or h-num h-bool h-open h-close h-comma h-gets h-dot h-is h-less h-plus h-minus h-times p q) (λ q. other-facts (c ∷ cs) h-use h-kind h-rec h-def h-let h-in h-if h-then h-else h-and h-or h-num h-bool h-open h-close h-comma h-gets h-dot h-is h-less h-plus h-minus h-times p q)))))))))))))))))))))))))
+    by_pick (Facts (c ∷ cs)) (same (c ∷ cs) k_use) _ _ (λ e. subst (λ v. Facts v Use) (sym (same_eq (c ∷ cs) k_use e)) use_facts) (λ h_use.
+    by_pick (Facts (c ∷ cs)) (same (c ∷ cs) k_kind) _ _ (λ e. subst (λ v. Facts v Kind) (sym (same_eq (c ∷ cs) k_kind e)) kind_facts) (λ h_kind.
+    by_pick (Facts (c ∷ cs)) (same (c ∷ cs) k_rec) _ _ (λ e. subst (λ v. Facts v Rec) (sym (same_eq (c ∷ cs) k_rec e)) rec_facts) (λ h_rec.
+    by_pick (Facts (c ∷ cs)) (same (c ∷ cs) k_def) _ _ (λ e. subst (λ v. Facts v Def) (sym (same_eq (c ∷ cs) k_def e)) def_facts) (λ h_def.
+    by_pick (Facts (c ∷ cs)) (same (c ∷ cs) k_let) _ _ (λ e. subst (λ v. Facts v Let) (sym (same_eq (c ∷ cs) k_let e)) let_facts) (λ h_let.
+    by_pick (Facts (c ∷ cs)) (same (c ∷ cs) k_in) _ _ (λ e. subst (λ v. Facts v In) (sym (same_eq (c ∷ cs) k_in e)) in_facts) (λ h_in.
+    by_pick (Facts (c ∷ cs)) (same (c ∷ cs) k_if) _ _ (λ e. subst (λ v. Facts v If) (sym (same_eq (c ∷ cs) k_if e)) if_facts) (λ h_if.
+    by_pick (Facts (c ∷ cs)) (same (c ∷ cs) k_then) _ _ (λ e. subst (λ v. Facts v Then) (sym (same_eq (c ∷ cs) k_then e)) then_facts) (λ h_then.
+    by_pick (Facts (c ∷ cs)) (same (c ∷ cs) k_else) _ _ (λ e. subst (λ v. Facts v Else) (sym (same_eq (c ∷ cs) k_else e)) else_facts) (λ h_else.
+    by_pick (Facts (c ∷ cs)) (same (c ∷ cs) k_and) _ _ (λ e. subst (λ v. Facts v (Sign And)) (sym (same_eq (c ∷ cs) k_and e)) and_facts) (λ h_and.
+    by_pick (Facts (c ∷ cs)) (same (c ∷ cs) k_or) _ _ (λ e. subst (λ v. Facts v (Sign Or)) (sym (same_eq (c ∷ cs) k_or e)) or_facts) (λ h_or.
+    by_pick (Facts (c ∷ cs)) (same (c ∷ cs) k_num) _ _ (λ e. subst (λ v. Facts v Num) (sym (same_eq (c ∷ cs) k_num e)) num_facts) (λ h_num.
+    by_pick (Facts (c ∷ cs)) (same (c ∷ cs) k_bool) _ _ (λ e. subst (λ v. Facts v TypeBool) (sym (same_eq (c ∷ cs) k_bool e)) bool_facts) (λ h_bool.
+    by_pick (Facts (c ∷ cs)) (same (c ∷ cs) t_lp) _ _ (λ e. subst (λ v. Facts v Open) (sym (same_eq (c ∷ cs) t_lp e)) open_facts) (λ h_open.
+    by_pick (Facts (c ∷ cs)) (same (c ∷ cs) t_rp) _ _ (λ e. subst (λ v. Facts v Close) (sym (same_eq (c ∷ cs) t_rp e)) close_facts) (λ h_close.
+    by_pick (Facts (c ∷ cs)) (same (c ∷ cs) t_comma) _ _ (λ e. subst (λ v. Facts v Comma) (sym (same_eq (c ∷ cs) t_comma e)) comma_facts) (λ h_comma.
+    by_pick (Facts (c ∷ cs)) (same (c ∷ cs) t_gets) _ _ (λ e. subst (λ v. Facts v Gets) (sym (same_eq (c ∷ cs) t_gets e)) gets_facts) (λ h_gets.
+    by_pick (Facts (c ∷ cs)) (same (c ∷ cs) t_dot) _ _ (λ e. subst (λ v. Facts v Dot) (sym (same_eq (c ∷ cs) t_dot e)) dot_facts) (λ h_dot.
+    by_pick (Facts (c ∷ cs)) (same (c ∷ cs) t_is) _ _ (λ e. subst (λ v. Facts v (Sign Equal)) (sym (same_eq (c ∷ cs) t_is e)) is_facts) (λ h_is.
+    by_pick (Facts (c ∷ cs)) (same (c ∷ cs) t_less) _ _ (λ e. subst (λ v. Facts v (Sign Less)) (sym (same_eq (c ∷ cs) t_less e)) less_facts) (λ h_less.
+    by_pick (Facts (c ∷ cs)) (same (c ∷ cs) t_plus) _ _ (λ e. subst (λ v. Facts v (Sign Plus)) (sym (same_eq (c ∷ cs) t_plus e)) plus_facts) (λ h_plus.
+    by_pick (Facts (c ∷ cs)) (same (c ∷ cs) t_minus) _ _ (λ e. subst (λ v. Facts v (Sign Minus)) (sym (same_eq (c ∷ cs) t_minus e)) minus_facts) (λ h_minus.
+    by_pick (Facts (c ∷ cs)) (same (c ∷ cs) t_times) _ _ (λ e. subst (λ v. Facts v (Sign Times)) (sym (same_eq (c ∷ cs) t_times e)) times_facts) (λ h_times.
+    by_pick (Facts (c ∷ cs)) (is_number (c ∷ cs)) _ _ (λ p. by_pick (Facts (c ∷ cs)) (digits (c ∷ cs)) _ _ (λ q. number_facts (c ∷ cs) h_use h_kind h_rec h_def h_let h_in h_if h_then h_else h_and h_or h_num h_bool h_open h_close h_comma h_gets h_dot h_is h_less h_plus h_minus h_times p q) (λ q. bad_facts (c ∷ cs) h_use h_kind h_rec h_def h_let h_in h_if h_then h_else h_and h_or h_num h_bool h_open h_close h_comma h_gets h_dot h_is h_less h_plus h_minus h_times p q))
+    (λ p. by_pick (Facts (c ∷ cs)) (letter c) _ _ (λ q. name_facts (c ∷ cs) h_use h_kind h_rec h_def h_let h_in h_if h_then h_else h_and h_or h_num h_bool h_open h_close h_comma h_gets h_dot h_is h_less h_plus h_minus h_times p q) (λ q. other_facts (c ∷ cs) h_use h_kind h_rec h_def h_let h_in h_if h_then h_else h_and h_or h_num h_bool h_open h_close h_comma h_gets h_dot h_is h_less h_plus h_minus h_times p q)))))))))))))))))))))))))

@@ -1,61 +1,56 @@
 -- A piece of some bytes is never the end.
-use mathlib.Core.Path.{_≡_, refl, sym, ap, subst, _∙_}
-use mathlib.Core.Bool.{Bool, true, false, _||_}
-use mathlib.Core.List.{List, [], _∷_}
-use Prim.Native.Nat.{ℕ, _-_, _≤_, _<_}
-use native.Mathlib.Omega.{arith}
-use lib.ListN.{length, take, drop, length-take, length-drop}
-use Rattle·std.proofs.shelf.Tests.{or-parts}
-use Rattle·base.specs.Base.{pick, Word, same}
-use Rattle·lexer·specs.Tokens.{left, next, letter}
-use Rattle·lexer·specs.Words.{k-use, k-kind, k-rec, k-def, k-let, k-in, k-if, k-then, k-else, k-and, k-or, k-num, k-bool, t-lp, t-rp, t-comma, t-gets, t-is, t-less, t-plus, t-minus, t-times, t-dot, is-number, digits}
-use Rattle·lexer·specs.Kinds.{token-of}
-use Rattle·lexer·specs.Seen.{NextAt, is-end, Stands, StandsIf}
-use Rattle·lexer·specs.declared.token.Operator.the-variants.{Plus, Minus, Times, Equal, Less, And, Or}
-use Rattle·lexer·specs.declared.token.Token.{Token}
-use Rattle·lexer·specs.declared.token.Token.the-variants.{Use, Kind, Rec, Def, Let, In, If, Then, Else, Num, Bool as TypeBool, Open, Close, Comma, Gets, Dot, Sign, Number, BadNumber, Name, Other}
+use Rattle.std.proofs.Common.{◌≡◌, ℕ, ◌-◌, ◌<◌, ◌≤◌, Bool, true, false, ◌||◌, List, [], ◌∷◌, length, take, drop, sym, refl, ap, ◌∙◌, subst, arith, length-drop, length-take}
+use Rattle.std.proofs.lemmas.Bool.{or_parts}
+use Rattle.base.specs.Base.{pick, Word, same}
+use Rattle.lexer.specs.Tokens.{left, next, letter}
+use Rattle.lexer.specs.Words.{k_use, k_kind, k_rec, k_def, k_let, k_in, k_if, k_then, k_else, k_and, k_or, k_num, k_bool, t_lp, t_rp, t_comma, t_gets, t_is, t_less, t_plus, t_minus, t_times, t_dot, is_number, digits}
+use Rattle.lexer.specs.Kinds.{token_of}
+use Rattle.lexer.specs.Seen.{NextAt, is_end, Stands, StandsIf}
+use Rattle.lexer.specs.declared.token.Operator.TheVariants.{Plus, Minus, Times, Equal, Less, And, Or}
+use Rattle.lexer.specs.declared.token.Token.{Token}
+use Rattle.lexer.specs.declared.token.Token.TheVariants.{Use, Kind, Rec, Def, Let, In, If, Then, Else, Num, Bool as TypeBool, Open, Close, Comma, Gets, Dot, Sign, Number, BadNumber, Name, Other}
 
 -- the first that passes its test, of some
 abbrev choose : List (Bool × Token) → Token → Token
 choose [] d = d
-choose (p ∷ ps) d = pick (p .0) (p .1) (choose ps d)
+choose (p ∷ ps) d = pick p.0 p.1 (choose ps d)
 
-abbrev some-end : List (Bool × Token) → Bool
-some-end [] = false
-some-end (p ∷ ps) = is-end (p .1) || some-end ps
+abbrev some_end : List (Bool × Token) → Bool
+some_end [] = false
+some_end (p ∷ ps) = is_end p.1 || some_end ps
 
-either : (b : Bool) (x y : Token) → is-end x ≡ false → is-end y ≡ false → is-end (pick b x y) ≡ false
+either : (b : Bool) (x y : Token) → is_end x ≡ false → is_end y ≡ false → is_end (pick b x y) ≡ false
 either true x y p q = p
 either false x y p q = q
 
-chosen : (ps : List (Bool × Token)) (d : Token) → some-end ps ≡ false → is-end d ≡ false → is-end (choose ps d) ≡ false
+chosen : (ps : List (Bool × Token)) (d : Token) → some_end ps ≡ false → is_end d ≡ false → is_end (choose ps d) ≡ false
 chosen [] d n e = e
 chosen (p ∷ ps) d n e =
-    let parts = or-parts (is-end (p .1)) (some-end ps) n in
-    either (p .0) (p .1) (choose ps d) (parts .0) (chosen ps d (parts .1) e)
+    let parts = or_parts (is_end p.1) (some_end ps) n in
+    either p.0 p.1 (choose ps d) parts.0 (chosen ps d parts.1 e)
 
-never-end : (w : Word) → 0 < length w → is-end (token-of w) ≡ false
-never-end [] h = absurd (omega (arith, h))
-never-end (c ∷ cs) h =
+never_end : (w : Word) → 0 < length w → is_end (token_of w) ≡ false
+never_end [] h = absurd (omega (arith, h))
+never_end (c ∷ cs) h =
     let w = c ∷ cs in
     chosen
-    ((same w k-use, Use) ∷ (same w k-kind, Kind) ∷ (same w k-rec, Rec) ∷ (same w k-def, Def) ∷ (same w k-let, Let)
-    ∷ (same w k-in, In) ∷ (same w k-if, If) ∷ (same w k-then, Then) ∷ (same w k-else, Else) ∷ (same w k-and, Sign And)
-    ∷ (same w k-or, Sign Or) ∷ (same w k-num, Num) ∷ (same w k-bool, TypeBool) ∷ (same w t-lp, Open) ∷ (same w t-rp, Close)
-    ∷ (same w t-comma, Comma) ∷ (same w t-gets, Gets) ∷ (same w t-dot, Dot) ∷ (same w t-is, Sign Equal) ∷ (same w t-less, Sign Less)
-    ∷ (same w t-plus, Sign Plus) ∷ (same w t-minus, Sign Minus) ∷ (same w t-times, Sign Times) ∷ [])
-    (pick (is-number w) (pick (digits w) Number BadNumber) (pick (letter c) Name Other))
+    ((same w k_use, Use) ∷ (same w k_kind, Kind) ∷ (same w k_rec, Rec) ∷ (same w k_def, Def) ∷ (same w k_let, Let)
+    ∷ (same w k_in, In) ∷ (same w k_if, If) ∷ (same w k_then, Then) ∷ (same w k_else, Else) ∷ (same w k_and, Sign And)
+    ∷ (same w k_or, Sign Or) ∷ (same w k_num, Num) ∷ (same w k_bool, TypeBool) ∷ (same w t_lp, Open) ∷ (same w t_rp, Close)
+    ∷ (same w t_comma, Comma) ∷ (same w t_gets, Gets) ∷ (same w t_dot, Dot) ∷ (same w t_is, Sign Equal) ∷ (same w t_less, Sign Less)
+    ∷ (same w t_plus, Sign Plus) ∷ (same w t_minus, Sign Minus) ∷ (same w t_times, Sign Times) ∷ [])
+    (pick (is_number w) (pick (digits w) Number BadNumber) (pick (letter c) Name Other))
     refl
-    (either (is-number w) (pick (digits w) Number BadNumber) (pick (letter c) Name Other) (either (digits w) Number BadNumber refl refl) (either (letter c) Name Other refl refl))
+    (either (is_number w) (pick (digits w) Number BadNumber) (pick (letter c) Name Other) (either (digits w) Number BadNumber refl refl) (either (letter c) Name Other refl refl))
 
-part-long : (line : List ℕ) (from to : ℕ) → from < to → to ≤ length line → 0 < length (take (to - from) (drop from line))
-part-long line from to l h = simp (length-take, length-drop) (omega arith)
+part_long : (line : List ℕ) (from to : ℕ) → from < to → to ≤ length line → 0 < length (take (to - from) (drop from line))
+part_long line from to l h = simp (length-take, length-drop) (omega arith)
 
 -- the token of the next piece, and where it stands
-pub token-there : (line : List ℕ) (at from to : ℕ) → NextAt line at from to → token-of (take (to - from) (drop from line)) ≡ token-of (next (left line at))
-token-there line at from to n = ap (λ ts. token-of (next ts)) (sym (n .reads))
+pub token_there : (line : List ℕ) (at from to : ℕ) → NextAt line at from to → token_of (take (to - from) (drop from line)) ≡ token_of (next (left line at))
+token_there line at from to n = ap (λ ts. token_of (next ts)) (sym n.reads)
 
-pub stands-there : (line : List ℕ) (at from to : ℕ) (t : Token) → NextAt line at from to → t ≡ token-of (take (to - from) (drop from line)) → Stands t line at from to
-stands-there line at from to t n e =
-    let never = ap is-end e ∙ never-end (take (to - from) (drop from line)) (part-long line from to (n .some-bytes) (n .within)) in
+pub stands_there : (line : List ℕ) (at from to : ℕ) (t : Token) → NextAt line at from to → t ≡ token_of (take (to - from) (drop from line)) → Stands t line at from to
+stands_there line at from to t n e =
+    let never = ap is_end e ∙ never_end (take (to - from) (drop from line)) (part_long line from to n.some_bytes n.within) in
     subst (λ b. StandsIf b line at from to) (sym never) n

@@ -1,28 +1,28 @@
 // The kinds of bytes.
-ghost use mathlib.Core.Path.{_≡_};
-ghost use Rattle·lexer·specs.Tokens.{letter, blank};
-ghost use Rattle·lexer·specs.Parts.{small, digit};
+ghost use Rattle.std.specs.Prelude.{◌≡◌};
+ghost use Rattle.lexer.specs.Tokens.{letter, blank};
+ghost use Rattle.lexer.specs.Parts.{small, digit};
 
 pub fn is_blank(c: u32) -> bool
-    ensures { λ r. ⌜ r ≡ blank c ⌝ }
+    ensures { result ≡ blank c }
 {
     matches!(c, 32 | 13 | 9)
 }
 
 pub fn is_letter(c: u32) -> bool
-    ensures { λ r. ⌜ r ≡ letter c ⌝ }
+    ensures { result ≡ letter c }
 {
     matches!(c, 97..=122 | 65..=90 | 95 | 48..=57)
 }
 
 pub fn is_small(c: u32) -> bool
-    ensures { λ r. ⌜ r ≡ small c ⌝ }
+    ensures { result ≡ small c }
 {
     matches!(c, 97..=122)
 }
 
 pub fn is_digit(c: u32) -> bool
-    ensures { λ r. ⌜ r ≡ digit c ⌝ }
+    ensures { result ≡ digit c }
 {
     matches!(c, 48..=57)
 }

@@ -1,12 +1,12 @@
 // The lines of a text.
-ghost use Rattle·lexer·specs.Lines.{LineEnds};
+ghost use Rattle.lexer.specs.Lines.{LineEnds};
 
 // The byte that ends a line.
 const NEWLINE: u32 = 10;
 
 // Where the line that begins at a place ends: at the byte that ends it, or with the text.
 pub fn line_end(text: &[u32], from: usize) -> usize
-    ensures { λ r. ⌜ LineEnds (now (text .entry)) from r ⌝ }
+    ensures { LineEnds text.now from result }
 {
     let mut i = from;
     while i < text.len() && text[i] != NEWLINE {

@@ -1,16 +1,10 @@
 // The pieces of a line, one after the other.
-ghost use mathlib.Core.Path.{_≡_};
-ghost use mathlib.Core.Bool.{true, false};
-ghost use mathlib.Core.List.{[], _∷_};
-ghost use Prim.Native.Nat.{_-_, _<_, _≤_};
-ghost use lib.ListN.{length, getD, take, drop};
-ghost use Rattle·std.specs.Options.{Cases as BySome};
-ghost use Rattle·lexer·specs.Tokens.{letter, blank, left, piece, «end-of»};
-ghost use Rattle·lexer·specs.Seen.{NextAt, SeenSays};
-use crate::bytes::is_blank;
-use crate::bytes::is_letter;
-use crate::token::Token;
-use crate::token::token_of;
+ghost use Rattle.std.specs.Prelude.{◌≡◌, ◌-◌, ◌<◌, ◌≤◌, true, false, [], ◌∷◌, length, MatchOption, ◌≢◌, slice_index, slice_range};
+ghost use Rattle.lexer.specs.Tokens.{letter, blank, left, piece, end_of};
+ghost use Rattle.lexer.specs.Seen.{NextAt, SeenSays};
+
+use crate::bytes::{is_blank, is_letter};
+use crate::token::{Token, token_of};
 
 // The byte that begins a note, which goes on to the line's end.
 const NOTE: u32 = 35;
@@ -34,9 +28,9 @@ pub struct Reader<'a> {
 
 // Where the blanks from a place on end.
 fn blanks_end(line: &[u32], from: usize) -> usize
-    ensures onward { λ r. ⌜ from ≤ r ⌝ }
-    ensures same { λ r. ⌜ left (now (line .entry)) from ≡ left (now (line .entry)) r ⌝ }
-    ensures stops { λ r. ⌜ (r < length (now (line .entry)) → blank (getD (now (line .entry)) r 0) ≡ false) ⌝ }
+    ensures onward { from ≤ result }
+    ensures same { left line.now from ≡ left line.now result }
+    ensures stops { result < length line.now → blank (slice_index line.now result) ≡ false }
 {
     let mut i = from;
     while i < line.len() && is_blank(line[i]) {
@@ -47,12 +41,12 @@ fn blanks_end(line: &[u32], from: usize) -> usize
 
 // Where the word that begins at a place ends.
 fn word_end(line: &[u32], from: usize) -> usize
-    requires within { ⌜ from < length (now line) ⌝ }
-    requires not_blank { ⌜ blank (getD (now line) from 0) ≡ false ⌝ }
-    requires begins { ⌜ letter (getD (now line) from 0) ≡ true ⌝ }
-    ensures within { λ r. ⌜ r ≤ length (now (line .entry)) ⌝ }
-    ensures onward { λ r. ⌜ from < r ⌝ }
-    ensures reads { λ r. ⌜ left (now (line .entry)) from ≡ piece (now (line .entry)) from r ∷ left (now (line .entry)) r ⌝ }
+    requires within { from < length line.now }
+    requires not_blank { blank (slice_index line.now from) ≡ false }
+    requires begins { letter (slice_index line.now from) ≡ true }
+    ensures within { result ≤ length line.now }
+    ensures onward { from < result }
+    ensures reads { left line.now from ≡ piece line.now from result ∷ left line.now result }
 {
     let mut i = from + 1;
     while i < line.len() && is_letter(line[i]) {
@@ -63,12 +57,12 @@ fn word_end(line: &[u32], from: usize) -> usize
 
 // Where the piece that begins at a place ends.
 fn piece_end(line: &[u32], from: usize) -> usize
-    requires within { ⌜ from < length (now line) ⌝ }
-    requires not_blank { ⌜ blank (getD (now line) from 0) ≡ false ⌝ }
-    requires no_note { ⌜ (getD (now line) from 0 ≡ 35 → ⊥) ⌝ }
-    ensures within { λ r. ⌜ r ≤ length (now (line .entry)) ⌝ }
-    ensures onward { λ r. ⌜ from < r ⌝ }
-    ensures reads { λ r. ⌜ left (now (line .entry)) from ≡ piece (now (line .entry)) from r ∷ left (now (line .entry)) r ⌝ }
+    requires within { from < length line.now }
+    requires not_blank { blank (slice_index line.now from) ≡ false }
+    requires no_note { slice_index line.now from ≢ 35 }
+    ensures within { result ≤ length line.now }
+    ensures onward { from < result }
+    ensures reads { left line.now from ≡ piece line.now from result ∷ left line.now result }
 {
     if is_letter(line[from]) {
         word_end(line, from)
@@ -82,11 +76,11 @@ fn piece_end(line: &[u32], from: usize) -> usize
 impl<'a> Reader<'a> {
     // The next piece, or none at the line's end or at a note.
     pub fn next(&mut self) -> Option<Piece<'a>>
-        ensures line { λ r. ⌜ now (now (self .exit) .line) ≡ now (now (self .entry) .line) ⌝ }
-        ensures within { λ r. ⌜ now (self .exit) .«at» ≤ length (now (now (self .entry) .line)) ⌝ }
-        ensures reads { λ r. ⌜ BySome r (left (now (now (self .entry) .line)) (now (self .entry) .«at») ≡ []) (λ p. NextAt (now (now (self .entry) .line)) (now (self .entry) .«at») (p .from) (p .to)) ⌝ }
-        ensures text { λ r. ⌜ BySome r Unit (λ p. now (p .text) ≡ take (p .to - p .from) (drop (p .from) (now (now (self .entry) .line)))) ⌝ }
-        ensures behind { λ r. ⌜ BySome r Unit (λ p. now (self .exit) .«at» ≡ p .to) ⌝ }
+        ensures line { self.new.line.now ≡ self.old.line.now }
+        ensures within { self.new.«at» ≤ length self.old.line.now }
+        ensures reads { MatchOption result (left self.old.line.now self.old.«at» ≡ []) (λ p. NextAt self.old.line.now self.old.«at» p.from p.to) }
+        ensures text { MatchOption result Unit (λ p. p.text.now ≡ slice_range self.old.line.now p.from p.to) }
+        ensures behind { MatchOption result Unit (λ p. self.new.«at» ≡ p.to) }
     {
         let line = self.line;
         let from = blanks_end(line, self.at);
@@ -114,7 +108,7 @@ pub struct Seen {
 
 // The next piece from a place on, which stays to be read.
 pub fn peek(line: &[u32], at: usize) -> Seen
-    ensures { λ r. ⌜ SeenSays (now (line .entry)) «at» r ⌝ }
+    ensures { SeenSays line.now «at» result }
 {
     let mut reader = Reader { line, at };
     match reader.next() {
@@ -133,7 +127,7 @@ pub fn peek(line: &[u32], at: usize) -> Seen
 
 // Where the last piece of a line ends, 0 where it has none.
 pub fn last_end(line: &[u32]) -> usize
-    ensures { λ r. ⌜ r ≡ «end-of» (left (now (line .entry)) 0) ⌝ }
+    ensures { result ≡ end_of (left line.now 0) }
 {
     let mut reader = Reader { line, at: 0 };
     let mut end = 0;

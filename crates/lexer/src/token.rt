@@ -1,11 +1,10 @@
 // What a piece is, as far as its own bytes tell.
-ghost use mathlib.Core.Path.{_≡_};
-ghost use Rattle·lexer·specs.Words.{digits};
-ghost use Rattle·lexer·specs.Kinds.{«token-of»};
-ghost use Rattle·lexer·specs.Parts.{keyword, number, sign};
-use crate::bytes::is_digit;
-use crate::bytes::is_letter;
-use crate::bytes::is_small;
+ghost use Rattle.std.specs.Prelude.{◌≡◌};
+ghost use Rattle.lexer.specs.Words.{digits};
+ghost use Rattle.lexer.specs.Kinds.{token_of};
+ghost use Rattle.lexer.specs.Parts.{keyword, number, sign};
+
+use crate::bytes::{is_digit, is_letter, is_small};
 use base::same_word;
 
 // The operators of an expression.
@@ -50,7 +49,7 @@ pub enum Token {
 
 // What a word is, by its bytes alone.
 pub fn token_of(w: &[u32]) -> Token
-    ensures { λ r. ⌜ r ≡ «token-of» (now (w .entry)) ⌝ }
+    ensures { result ≡ token_of w.now }
 {
     match w {
         [] => Token::End,
@@ -65,7 +64,7 @@ pub fn token_of(w: &[u32]) -> Token
 
 // A word that begins with a small letter: one of the fixed words, or a name.
 fn keyword(w: &[u32]) -> Token
-    ensures { λ r. ⌜ r ≡ keyword (now (w .entry)) ⌝ }
+    ensures { result ≡ keyword w.now }
 {
     match w {
         w if same_word(w, &[117, 115, 101]) => Token::Use,
@@ -87,7 +86,7 @@ fn keyword(w: &[u32]) -> Token
 
 // A byte that is no letter, by itself.
 fn sign(c: u32) -> Token
-    ensures { λ r. ⌜ r ≡ sign c ⌝ }
+    ensures { result ≡ sign c }
 {
     match c {
         40 => Token::Open,
@@ -105,7 +104,7 @@ fn sign(c: u32) -> Token
 
 // A word that begins with a digit.
 fn number(w: &[u32]) -> Token
-    ensures { λ r. ⌜ r ≡ number (now (w .entry)) ⌝ }
+    ensures { result ≡ number w.now }
 {
     if all_digits(w) {
         Token::Number
@@ -116,7 +115,7 @@ fn number(w: &[u32]) -> Token
 
 // Whether every byte is a digit.
 fn all_digits(w: &[u32]) -> bool
-    ensures { λ r. ⌜ r ≡ digits (now (w .entry)) ⌝ }
+    ensures { result ≡ digits w.now }
 {
     for c in w {
         if !is_digit(*c) {

@@ -1,19 +1,15 @@
 -- Whether words are a memo, as a test: what Fits says (proofs/Tests).
-use mathlib.Core.Bool.{Bool, _&&_}
-use mathlib.Core.List.{List}
-use Prim.Native.Nat.{ℕ, zero, suc, _+_, _*_}
-use lib.ListN.{length, getD, take, drop}
-use lib.Dec.{eqb, leb}
-use Rattle·base.specs.Base.{same}
-use Rattle·memo·specs.Record.{key-of, row-long, row-in, size, older}
-use Rattle·memo·specs.Log.{bucket, heads, log}
+use Rattle.std.specs.Prelude.{ℕ, zero, suc, ◌+◌, ◌*◌, Bool, ◌&&◌, List, length, take, drop, ◌==◌, nat_le, slice_index}
+use Rattle.base.specs.Base.{same}
+use Rattle.memo.specs.Record.{key_of, row_long, row_in, size, older}
+use Rattle.memo.specs.Log.{bucket, heads, log}
 
-abbrev pub one-fits : ℕ → ℕ → List ℕ → Bool
-one-fits b n ws = leb (size ws) (length ws) && (eqb (row-long (getD ws 5 0) (row-in ws)) (getD ws 6 0) && eqb (getD ws 3 0) (getD (heads b n (older ws)) (bucket (key-of ws) b) 0))
+abbrev pub one_fits : ℕ → ℕ → List ℕ → Bool
+one_fits b n ws = nat_le (size ws) (length ws) && (row_long (slice_index ws 5) (row_in ws) == slice_index ws 6 && slice_index ws 3 == slice_index (heads b n (older ws)) (bucket (key_of ws) b))
 
-abbrev pub log-fits : ℕ → ℕ → List ℕ → Bool
-log-fits b zero ws = eqb (length ws) 0
-log-fits b (suc n) ws = one-fits b n ws && log-fits b n (older ws)
+abbrev pub log_fits : ℕ → ℕ → List ℕ → Bool
+log_fits b zero ws = length ws == 0
+log_fits b (suc n) ws = one_fits b n ws && log_fits b n (older ws)
 
-unfoldable pub memo-fits : List ℕ → Bool
-memo-fits ws = leb 1 (getD ws 2 0) && (leb (4 * getD ws 2 0) (length ws) && (leb (3 + getD ws 2 0 + getD ws 0 0) (length ws) && (same (take (getD ws 2 0) (drop 3 ws)) (heads (getD ws 2 0) (getD ws 1 0) (log ws)) && log-fits (getD ws 2 0) (getD ws 1 0) (log ws))))
+unfoldable pub memo_fits : List ℕ → Bool
+memo_fits ws = nat_le 1 (slice_index ws 2) && (nat_le (4 * slice_index ws 2) (length ws) && (nat_le (3 + slice_index ws 2 + slice_index ws 0) (length ws) && (same (take (slice_index ws 2) (drop 3 ws)) (heads (slice_index ws 2) (slice_index ws 1) (log ws)) && log_fits (slice_index ws 2) (slice_index ws 1) (log ws))))

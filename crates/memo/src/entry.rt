@@ -1,34 +1,31 @@
 // Reading an entry where it stands: its answer, and what it asked, one after the other.
-ghost use denote.Ref.{now};
-ghost use mathlib.Core.Path.{_≡_};
-ghost use Prim.Native.Nat.{_<_};
-ghost use lib.ListN.{length};
-ghost use Rattle·memo·specs.Log.{Fits, Record, entry-at};
-ghost use Rattle·memo·specs.Says.{Looks, GotSays};
-use crate::record::part;
-use crate::record::word;
+ghost use Rattle.std.specs.Prelude.{◌≡◌, ◌<◌, length};
+ghost use Rattle.memo.specs.Log.{Fits, Record, entry_at};
+ghost use Rattle.memo.specs.Says.{Looks, GotSays};
+
+use crate::record::{part, word};
 use engine::key::Key;
 
 // The answer of an entry.
 pub fn answer(words: &[u32], d: usize) -> &[u32]
-    requires { ⌜ Fits (now words) ⌝ ∗ ⌜ Record (now words) d ⌝ }
-    ensures { λ r. ⌜ now r ≡ entry-at (now (words .entry)) d .ans ⌝ }
+    requires { (Fits words.now) × (Record words.now d) }
+    ensures { result.now ≡ (entry_at words.now d).ans }
 {
     part(words, d, 7, word(words, d, 4) as usize)
 }
 
 // How many things an entry asked.
 pub fn asked(words: &[u32], d: usize) -> usize
-    requires { ⌜ Fits (now words) ⌝ ∗ ⌜ Record (now words) d ⌝ }
-    ensures { λ r. ⌜ r ≡ length (entry-at (now (words .entry)) d .gots) ⌝ }
+    requires { (Fits words.now) × (Record words.now d) }
+    ensures { result ≡ length (entry_at words.now d).gots }
 {
     word(words, d, 5) as usize
 }
 
 // Where a reader of what an entry asked begins.
 pub fn first(words: &[u32], d: usize) -> usize
-    requires { ⌜ Fits (now words) ⌝ ∗ ⌜ Record (now words) d ⌝ }
-    ensures { λ r. ⌜ Looks (now (words .entry)) d 0 r ⌝ }
+    requires { (Fits words.now) × (Record words.now d) }
+    ensures { Looks words.now d 0 result }
 {
     0
 }
@@ -43,8 +40,8 @@ pub struct Reply<'a> {
 
 // The i-th thing that an entry asked; q is where its answer stands, from the reader's last step.
 pub fn got(words: &[u32], d: usize, i: usize, q: usize) -> Reply<'_>
-    requires { ⌜ Fits (now words) ⌝ ∗ ⌜ Looks (now words) d i q ⌝ ∗ ⌜ i < length (entry-at (now words) d .gots) ⌝ }
-    ensures { λ r. ⌜ GotSays (now (words .entry)) d i (r .key) (now (r .ans)) (r .next) ⌝ }
+    requires { (Fits words.now) × ((Looks words.now d i q) × (i < length (entry_at words.now d).gots)) }
+    ensures { GotSays words.now d i result.key result.ans.now result.next }
 {
     let a = word(words, d, 4) as usize;
     let c = word(words, d, 5) as usize;

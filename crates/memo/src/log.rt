@@ -1,22 +1,18 @@
 // The log and the index over it: making an empty memo, and adding a record. The table of the row's words stands in specs/Log.
-ghost use denote.Ref.{now};
-ghost use mathlib.Core.Path.{_≡_};
-ghost use Prim.Native.Nat.{_*_, _<_};
-ghost use lib.ListN.{length};
-ghost use Rattle·memo·specs.Record.{gots-of, row-long, made};
-ghost use mathlib.Core.List.{[]};
-ghost use Rattle·memo·specs.Log.{Fits, kept-entries, spare, capacity};
-ghost use Rattle·memo·specs.Says.{Keeps, StoreSays, Created};
+ghost use Rattle.std.specs.Prelude.{◌≡◌, ◌*◌, ◌<◌, [], length};
+ghost use Rattle.memo.specs.Record.{gots_of, row_long, made};
+ghost use Rattle.memo.specs.Log.{Fits, kept_entries, spare, capacity};
+ghost use Rattle.memo.specs.Says.{Keeps, StoreSays, Created};
+
 use crate::chain::bucket_of;
 use crate::record::write;
-use crate::row::clear;
-use crate::row::point;
+use crate::row::{clear, point};
 use engine::key::Key;
 
 // An empty memo: a sixteenth of the words are buckets.
 pub fn create(words: &mut [u32]) -> bool
-    requires { ⌜ length (now words) < 4294967296 ⌝ }
-    ensures { λ r. ⌜ Created (now (words .entry)) (now (words .exit)) r ⌝ }
+    requires { length words.old < 4294967296 }
+    ensures { Created words.old words.new result }
 {
     if words.len() < 4 {
         return false;
@@ -30,10 +26,10 @@ pub fn create(words: &mut [u32]) -> bool
 
 // All entries dropped: every word that isn't the index's is free.
 pub fn forget(words: &mut [u32])
-    requires { ⌜ Fits (now words) ⌝ ∗ ⌜ length (now words) < 4294967296 ⌝ }
-    ensures fits { λ _. ⌜ Fits (now (words .exit)) ⌝ }
-    ensures is { λ _. ⌜ kept-entries (now (words .exit)) ≡ [] ⌝ }
-    ensures room { λ _. ⌜ spare (now (words .exit)) ≡ capacity (now (words .entry)) ⌝ }
+    requires { (Fits words.old) × (length words.old < 4294967296) }
+    ensures fits { Fits words.new }
+    ensures is { kept_entries words.new ≡ [] }
+    ensures room { spare words.new ≡ capacity words.old }
 {
     let buckets = words[2];
     clear(words, 3, buckets as usize);
@@ -50,12 +46,12 @@ pub fn append(
     keys: &[u32],
     row: &[u32],
 ) -> bool
-    requires fits { ⌜ Fits (now words) ⌝ }
-    requires small { ⌜ (length (now words) < 4294967296) × (length (now ans) < 4294967296) × (length (now row) < 4294967296) × (count < 4294967296) ⌝ }
-    requires asked { ⌜ (length (now keys) ≡ 3 * count) × (row-long count (now row) ≡ length (now row)) ⌝ }
-    ensures fits { λ _. ⌜ Fits (now (words .exit)) ⌝ }
-    ensures says { λ r. ⌜ StoreSays (made (now (k .entry)) (now (ans .entry)) (gots-of count (now (keys .entry)) (now (row .entry)))) (now (words .entry)) (now (words .exit)) r ⌝ }
-    ensures keeps { λ _. ⌜ Keeps (now (words .entry)) (now (words .exit)) ⌝ }
+    requires fits { Fits words.old }
+    requires small { (length words.old < 4294967296) × (length ans.now < 4294967296) × (length row.now < 4294967296) × (count < 4294967296) }
+    requires asked { (length keys.now ≡ 3 * count) × (row_long count row.now ≡ length row.now) }
+    ensures fits { Fits words.new }
+    ensures says { StoreSays (made k.now ans.now (gots_of count keys.now row.now)) words.old words.new result }
+    ensures keeps { Keeps words.old words.new }
 {
     let depth = words[0] as usize;
     let buckets = words[2] as usize;

@@ -1,14 +1,10 @@
 // Marks: the memo as it was, to come back to. Records are only ever added in front, so to go back is to take them off.
-ghost use denote.Ref.{now};
-ghost use mathlib.Core.Path.{_≡_};
-ghost use Prim.Native.Nat.{_<_};
-ghost use lib.ListN.{getD};
-ghost use Rattle·memo·specs.Log.{Fits, kept-entries, Marked, entries-at};
-ghost use Rattle·memo·specs.Says.{Popped};
+ghost use Rattle.std.specs.Prelude.{◌≡◌, ◌<◌, slice_index};
+ghost use Rattle.memo.specs.Log.{Fits, kept_entries, Marked, entries_at};
+ghost use Rattle.memo.specs.Says.{Popped};
+
 use crate::chain::bucket_of;
-use crate::record::key_at;
-use crate::record::size_at;
-use crate::record::word;
+use crate::record::{key_at, size_at, word};
 use crate::row::point;
 
 // The memo as it was at some time: the length of its log, and how many records it had.
@@ -20,9 +16,9 @@ pub struct Mark {
 
 // The memo as it is now.
 pub fn take_mark(words: &[u32]) -> Mark
-    requires { ⌜ Fits (now words) ⌝ }
-    ensures marked { λ r. ⌜ Marked (now (words .entry)) r ⌝ }
-    ensures is { λ r. ⌜ entries-at (now (words .entry)) r ≡ kept-entries (now (words .entry)) ⌝ }
+    requires { Fits words.now }
+    ensures marked { Marked words.now result }
+    ensures is { entries_at words.now result ≡ kept_entries words.now }
 {
     Mark {
         depth: words[0] as usize,
@@ -32,9 +28,9 @@ pub fn take_mark(words: &[u32]) -> Mark
 
 // Back to a mark: the entries are those of then.
 pub fn roll_back(words: &mut [u32], mark: Mark)
-    requires { ⌜ Fits (now words) ⌝ ∗ ⌜ Marked (now words) mark ⌝ }
-    ensures fits { λ _. ⌜ Fits (now (words .exit)) ⌝ }
-    ensures is { λ _. ⌜ kept-entries (now (words .exit)) ≡ entries-at (now (words .entry)) mark ⌝ }
+    requires { (Fits words.old) × (Marked words.old mark) }
+    ensures fits { Fits words.new }
+    ensures is { kept_entries words.new ≡ entries_at words.old mark }
 {
     while words[0] as usize > mark.depth {
         pop(words);
@@ -43,9 +39,9 @@ pub fn roll_back(words: &mut [u32], mark: Mark)
 
 // The newest record taken off.
 fn pop(words: &mut [u32])
-    requires { ⌜ Fits (now words) ⌝ ∗ ⌜ 0 < getD (now words) 1 0 ⌝ }
-    ensures fits { λ _. ⌜ Fits (now (words .exit)) ⌝ }
-    ensures popped { λ _. ⌜ Popped (now (words .entry)) (now (words .exit)) ⌝ }
+    requires { (Fits words.old) × (0 < slice_index words.old 1) }
+    ensures fits { Fits words.new }
+    ensures popped { Popped words.old words.new }
 {
     let depth = words[0] as usize;
     let count = words[1];

@@ -1,26 +1,24 @@
 // Records: one entry in words, written and read. The table of a record's words stands in specs/Record.
 // A place is a depth: counted from the end of the row, so that it stays good while records are added in front.
-ghost use denote.Ref.{now};
-ghost use mathlib.Core.Path.{_≡_};
-ghost use Prim.Native.Nat.{_+_, _<_, _≤_};
-ghost use lib.ListN.{length, getD, take, drop};
-ghost use Rattle·memo·specs.Record.{key-of, size, deep, puts, packed};
-ghost use Rattle·memo·specs.Says.{PartsSays};
+ghost use Rattle.std.specs.Prelude.{◌≡◌, ◌+◌, ◌<◌, ◌≤◌, length, take, drop, slice_index};
+ghost use Rattle.memo.specs.Record.{key_of, size, deep, puts, packed};
+ghost use Rattle.memo.specs.Says.{PartsSays};
+
 use crate::row::put;
 use engine::key::Key;
 
 // The i-th word of what stands at a depth.
 pub fn word(words: &[u32], d: usize, i: usize) -> u32
-    requires { ⌜ i < d ⌝ ∗ ⌜ d ≤ length (now words) ⌝ }
-    ensures { λ r. ⌜ r ≡ getD (deep d (now (words .entry))) i 0 ⌝ }
+    requires { (i < d) × (d ≤ length words.now) }
+    ensures { result ≡ slice_index (deep d words.now) i }
 {
     words[words.len() - d + i]
 }
 
 // So many words of what stands at a depth, from the i-th on.
 pub fn part(words: &[u32], d: usize, i: usize, n: usize) -> &[u32]
-    requires { ⌜ i + n ≤ d ⌝ ∗ ⌜ d ≤ length (now words) ⌝ }
-    ensures { λ r. ⌜ now r ≡ take n (drop i (deep d (now (words .entry)))) ⌝ }
+    requires { (i + n ≤ d) × (d ≤ length words.now) }
+    ensures { result.now ≡ take n (drop i (deep d words.now)) }
 {
     let p = words.len() - d + i;
     &words[p..p + n]
@@ -28,8 +26,8 @@ pub fn part(words: &[u32], d: usize, i: usize, n: usize) -> &[u32]
 
 // The key of the record at a depth.
 pub fn key_at(words: &[u32], d: usize) -> Key
-    requires { ⌜ 3 ≤ d ⌝ ∗ ⌜ d ≤ length (now words) ⌝ }
-    ensures { λ r. ⌜ r ≡ key-of (deep d (now (words .entry))) ⌝ }
+    requires { (3 ≤ d) × (d ≤ length words.now) }
+    ensures { result ≡ key_of (deep d words.now) }
 {
     Key {
         kind: word(words, d, 0),
@@ -40,8 +38,8 @@ pub fn key_at(words: &[u32], d: usize) -> Key
 
 // How many words the record at a depth takes.
 pub fn size_at(words: &[u32], d: usize) -> usize
-    requires { ⌜ 7 ≤ d ⌝ ∗ ⌜ d ≤ length (now words) ⌝ }
-    ensures { λ r. ⌜ r ≡ size (deep d (now (words .entry))) ⌝ }
+    requires { (7 ≤ d) × (d ≤ length words.now) }
+    ensures { result ≡ size (deep d words.now) }
 {
     7 + (word(words, d, 4) as usize + (3 * word(words, d, 5) as usize + word(words, d, 6) as usize))
 }
@@ -58,8 +56,8 @@ pub struct Parts<'a> {
 
 // The parts of the record at a depth.
 pub fn take_apart(words: &[u32], d: usize) -> Parts<'_>
-    requires { ⌜ size (deep d (now words)) ≤ d ⌝ ∗ ⌜ d ≤ length (now words) ⌝ }
-    ensures { λ r. ⌜ PartsSays (deep d (now (words .entry))) (r .key) (now (r .ans)) (r .count) (now (r .keys)) (now (r .row)) ⌝ }
+    requires { (size (deep d words.now) ≤ d) × (d ≤ length words.now) }
+    ensures { PartsSays (deep d words.now) result.key result.ans.now result.count result.keys.now result.row.now }
 {
     let a = word(words, d, 4) as usize;
     let count = word(words, d, 5) as usize;
@@ -85,8 +83,8 @@ pub fn write(
     keys: &[u32],
     row: &[u32],
 )
-    requires { ⌜ p + (7 + (length (now ans) + (length (now keys) + length (now row)))) ≤ length (now words) ⌝ ∗ ⌜ length (now words) < 4294967296 ⌝ }
-    ensures { λ _. ⌜ now (words .exit) ≡ puts p (packed (now (k .entry)) prev (now (ans .entry)) count (now (keys .entry)) (now (row .entry))) (now (words .entry)) ⌝ }
+    requires { (p + (7 + (length ans.now + (length keys.now + length row.now))) ≤ length words.old) × (length words.old < 4294967296) }
+    ensures { words.new ≡ puts p (packed k.now prev ans.now count keys.now row.now) words.old }
 {
     let head = [
         k.kind,

@@ -1,26 +1,16 @@
 // Turns at which something begins: an expression or an atom.
-ghost use denote.Ref.{now};
-ghost use Rattle·grammar.specs.Machine.{«do-begin», «do-atom», «do-call»};
-ghost use Rattle·parser·specs.Rows.{«span-of», «line-of», Ready, Does, «after-let», «after-name»};
-use crate::code::Op;
-use crate::code::Span;
-use crate::code::emit;
+ghost use Rattle.grammar.specs.Machine.{do_begin, do_atom, do_call};
+ghost use Rattle.parser.specs.Rows.{span_of, line_of, Ready, Does, after_let, after_name};
+
+use crate::code::{Op, Span, emit};
 use crate::stack::Frame;
-use crate::turn::Bounds;
-use crate::turn::Phase;
-use crate::turn::Place;
-use crate::turn::SMALLEST;
-use crate::turn::Turn;
-use crate::turn::look;
-use crate::turn::put;
-use crate::turn::put_wait;
-use crate::turn::wait;
+use crate::turn::{Bounds, Phase, Place, SMALLEST, Turn, look, put, put_wait, wait};
 use lexer::token::Token;
 
 // An expression begins.
 pub fn begin(words: &mut [u32], b: Bounds, p: Place) -> Turn
-    requires { ⌜ Ready 24 b p (now words) ⌝ }
-    ensures { λ r. ⌜ Does b p (now (words .entry)) (now (words .exit)) «do-begin» r ⌝ }
+    requires { Ready 24 b p words.old }
+    ensures { Does b p words.old words.new do_begin result }
 {
     let s = look(words, b.len, p.at);
     let q = Place {
@@ -36,8 +26,8 @@ pub fn begin(words: &mut [u32], b: Bounds, p: Place) -> Turn
 
 // Behind a let that began at a place: its name and =.
 fn name_bound(words: &mut [u32], b: Bounds, p: Place, n: u32) -> Turn
-    requires { ⌜ Ready 24 b p (now words) ⌝ }
-    ensures { λ r. ⌜ Does b p (now (words .entry)) (now (words .exit)) («after-let» n) r ⌝ }
+    requires { Ready 24 b p words.old }
+    ensures { Does b p words.old words.new (after_let n) result }
 {
     let x = look(words, b.len, p.at);
     let Token::Name = x.token else {
@@ -57,8 +47,8 @@ fn name_bound(words: &mut [u32], b: Bounds, p: Place, n: u32) -> Turn
 
 // An atom begins.
 pub fn atom(words: &mut [u32], b: Bounds, p: Place) -> Turn
-    requires { ⌜ Ready 24 b p (now words) ⌝ }
-    ensures { λ r. ⌜ Does b p (now (words .entry)) (now (words .exit)) «do-atom» r ⌝ }
+    requires { Ready 24 b p words.old }
+    ensures { Does b p words.old words.new do_atom result }
 {
     let s = look(words, b.len, p.at);
     let q = Place {
@@ -75,8 +65,8 @@ pub fn atom(words: &mut [u32], b: Bounds, p: Place) -> Turn
 
 // Behind a name: a call of it, or itself.
 fn named(words: &mut [u32], b: Bounds, p: Place, f: Span) -> Turn
-    requires { ⌜ Ready 24 b p (now words) ⌝ }
-    ensures { λ r. ⌜ Does b p (now (words .entry)) (now (words .exit)) («after-name» («span-of» («line-of» b (now (words .entry))) f)) r ⌝ }
+    requires { Ready 24 b p words.old }
+    ensures { Does b p words.old words.new (after_name (span_of (line_of b words.old) f)) result }
 {
     let s = look(words, b.len, p.at);
     let q = Place {
@@ -91,8 +81,8 @@ fn named(words: &mut [u32], b: Bounds, p: Place, f: Span) -> Turn
 
 // Behind a name and its bracket.
 fn call(words: &mut [u32], b: Bounds, p: Place, f: Span) -> Turn
-    requires { ⌜ Ready 24 b p (now words) ⌝ }
-    ensures { λ r. ⌜ Does b p (now (words .entry)) (now (words .exit)) («do-call» («span-of» («line-of» b (now (words .entry))) f)) r ⌝ }
+    requires { Ready 24 b p words.old }
+    ensures { Does b p words.old words.new (do_call (span_of (line_of b words.old) f)) result }
 {
     let s = look(words, b.len, p.at);
     match s.token {

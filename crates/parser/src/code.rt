@@ -1,12 +1,9 @@
 // Flat code in words: five words an operation.
-ghost use denote.Ref.{now};
-ghost use mathlib.Core.Path.{_≡_};
-ghost use mathlib.Core.List.{List, [], _∷_, _++_};
-ghost use Prim.Native.Nat.{ℕ, _+_, _*_, _<_, _≤_};
-ghost use lib.ListN.{length, getD, take};
-ghost use Rattle·lexer.specs.Kinds.{operator};
-ghost use Rattle·grammar.specs.Machine.{patch};
-ghost use Rattle·parser·specs.Rows.{«sign-of», «op-of», ops, «ops-of», «op-is», «frames-of»};
+ghost use Rattle.std.specs.Prelude.{◌≡◌, ℕ, ◌+◌, ◌*◌, ◌<◌, ◌≤◌, List, [], ◌∷◌, ◌++◌, length, take, slice_index};
+ghost use Rattle.lexer.specs.Kinds.{operator};
+ghost use Rattle.grammar.specs.Machine.{patch};
+ghost use Rattle.parser.specs.Rows.{sign_of, op_of, ops, ops_of, op_is, frames_of};
+
 use lexer::token::Operator;
 
 // A part of the line: from a place up to behind another.
@@ -45,7 +42,7 @@ pub enum Op {
 
 // An operator's number, and the operator of a number.
 pub fn number_of(o: Operator) -> u32
-    ensures { λ r. ⌜ r ≡ operator o ⌝ }
+    ensures { result ≡ operator o }
 {
     match o {
         Operator::Plus => 0,
@@ -59,7 +56,7 @@ pub fn number_of(o: Operator) -> u32
 }
 
 pub fn sign(a: u32) -> Operator
-    ensures { λ r. ⌜ r ≡ «sign-of» a ⌝ }
+    ensures { result ≡ sign_of a }
 {
     match a {
         0 => Operator::Plus,
@@ -77,7 +74,7 @@ const CALL: u32 = 2;
 
 // The words of an operation.
 fn pack(op: Op) -> [u32; 5]
-    ensures { λ r. ⌜ ((line : List ℕ) → ops line r ≡ «op-is» line op ∷ []) ⌝ }
+    ensures { (line : List ℕ) → ops line result ≡ op_is line op ∷ [] }
 {
     match op {
         Op::Number(s) => [0, s.from, s.to, 0, 0],
@@ -104,7 +101,7 @@ fn pack(op: Op) -> [u32; 5]
 
 // The operation of five words.
 fn unpack(tag: u32, a: u32, b: u32, c: u32, d: u32) -> Op
-    ensures { λ r. ⌜ ((line : List ℕ) → «op-is» line r ≡ «op-of» line tag a b c d) ⌝ }
+    ensures { (line : List ℕ) → op_is line result ≡ op_of line tag a b c d }
 {
     let s = Span { from: a, to: b };
     match tag {
@@ -132,10 +129,10 @@ fn unpack(tag: u32, a: u32, b: u32, c: u32, d: u32) -> Op
 
 // One operation more behind n of them.
 pub fn emit(words: &mut [u32], base: usize, n: usize, op: Op)
-    requires { ⌜ base + 5 * n + 5 ≤ length (now words) ⌝ }
-    ensures adds { λ _. ⌜ ((line : List ℕ) → «ops-of» line base (n + 1) (now (words .exit)) ≡ «ops-of» line base n (now (words .entry)) ++ («op-is» line op ∷ [])) ⌝ }
-    ensures below { λ _. ⌜ ((m : ℕ) → m ≤ base + 5 * n → take m (now (words .exit)) ≡ take m (now (words .entry))) ⌝ }
-    ensures above { λ _. ⌜ ((line : List ℕ) (d : ℕ) → base + 5 * n + 5 + 4 * d ≤ length (now (words .entry)) → «frames-of» line d (now (words .exit)) ≡ «frames-of» line d (now (words .entry))) ⌝ }
+    requires { base + 5 * n + 5 ≤ length words.old }
+    ensures adds { (line : List ℕ) → ops_of line base (n + 1) words.new ≡ ops_of line base n words.old ++ (op_is line op ∷ []) }
+    ensures below { (m : ℕ) → m ≤ base + 5 * n → take m words.new ≡ take m words.old }
+    ensures above { (line : List ℕ) (d : ℕ) → base + 5 * n + 5 + 4 * d ≤ length words.old → frames_of line d words.new ≡ frames_of line d words.old }
 {
     let i = base + 5 * n;
     words[i..i + 5].copy_from_slice(&pack(op));
@@ -143,8 +140,8 @@ pub fn emit(words: &mut [u32], base: usize, n: usize, op: Op)
 
 // Operation i.
 pub fn op_at(words: &[u32], base: usize, i: usize) -> Op
-    requires { ⌜ base + 5 * i + 5 ≤ length (now words) ⌝ }
-    ensures { λ r. ⌜ ((line : List ℕ) → «op-is» line r ≡ «op-of» line (getD (now (words .entry)) (base + 5 * i) 0) (getD (now (words .entry)) (base + 5 * i + 1) 0) (getD (now (words .entry)) (base + 5 * i + 2) 0) (getD (now (words .entry)) (base + 5 * i + 3) 0) (getD (now (words .entry)) (base + 5 * i + 4) 0)) ⌝ }
+    requires { base + 5 * i + 5 ≤ length words.now }
+    ensures { (line : List ℕ) → op_is line result ≡ op_of line (slice_index words.now (base + 5 * i)) (slice_index words.now (base + 5 * i + 1)) (slice_index words.now (base + 5 * i + 2)) (slice_index words.now (base + 5 * i + 3)) (slice_index words.now (base + 5 * i + 4)) }
 {
     let j = base + 5 * i;
     unpack(
@@ -158,10 +155,10 @@ pub fn op_at(words: &[u32], base: usize, i: usize) -> Op
 
 // The call that begins at operation p, if one does, has k arguments.
 pub fn patch_count(words: &mut [u32], base: usize, n: usize, p: usize, k: u32)
-    requires { ⌜ base + 5 * n ≤ length (now words) ⌝ }
-    ensures counts { λ _. ⌜ ((line : List ℕ) → «ops-of» line base n (now (words .exit)) ≡ patch («ops-of» line base n (now (words .entry))) p k) ⌝ }
-    ensures below { λ _. ⌜ ((m : ℕ) → m ≤ base → take m (now (words .exit)) ≡ take m (now (words .entry))) ⌝ }
-    ensures above { λ _. ⌜ ((line : List ℕ) (d : ℕ) → base + 5 * n + 4 * d ≤ length (now (words .entry)) → «frames-of» line d (now (words .exit)) ≡ «frames-of» line d (now (words .entry))) ⌝ }
+    requires { base + 5 * n ≤ length words.old }
+    ensures counts { (line : List ℕ) → ops_of line base n words.new ≡ patch (ops_of line base n words.old) p k }
+    ensures below { (m : ℕ) → m ≤ base → take m words.new ≡ take m words.old }
+    ensures above { (line : List ℕ) (d : ℕ) → base + 5 * n + 4 * d ≤ length words.old → frames_of line d words.new ≡ frames_of line d words.old }
 {
     if p < n {
         let i = base + 5 * p;

@@ -1,15 +1,9 @@
 // An expression from a place of the line on, as flat code, with no call of itself.
-ghost use denote.Ref.{now};
-ghost use mathlib.Core.Path.{_≡_};
-ghost use Prim.Native.Nat.{_+_, _*_, _<_, _≤_};
-ghost use lib.ListN.{length, take};
-ghost use Rattle·parser·specs.Rows.{«frames-of», «line-of», Ready, Few, Does, takes, ReadSays};
-use crate::begin::atom;
-use crate::begin::begin;
-use crate::turn::Bounds;
-use crate::turn::Phase;
-use crate::turn::Place;
-use crate::turn::Turn;
+ghost use Rattle.std.specs.Prelude.{◌≡◌, ◌+◌, ◌*◌, ◌<◌, ◌≤◌, length, take};
+ghost use Rattle.parser.specs.Rows.{frames_of, line_of, Ready, Few, Does, takes, ReadSays};
+
+use crate::begin::{atom, begin};
+use crate::turn::{Bounds, Phase, Place, Turn};
 use crate::value::value;
 
 // What was read: up to which place, and how many operations; or the place where the piece can't be there.
@@ -21,8 +15,8 @@ pub enum Read {
 
 // A turn.
 fn advance(words: &mut [u32], b: Bounds, phase: Phase, p: Place) -> Turn
-    requires { ⌜ Ready 24 b p (now words) ⌝ ∗ ⌜ Few («frames-of» («line-of» b (now words)) (p .depth) (now words)) ⌝ }
-    ensures { λ r. ⌜ Does b p (now (words .entry)) (now (words .exit)) (takes phase) r ⌝ }
+    requires { (Ready 24 b p words.old) × (Few (frames_of (line_of b words.old) p.depth words.old)) }
+    ensures { Does b p words.old words.new (takes phase) result }
 {
     match phase {
         Phase::Begin => begin(words, b, p),
@@ -33,12 +27,12 @@ fn advance(words: &mut [u32], b: Bounds, phase: Phase, p: Place) -> Turn
 
 // The line is the first len words, the code goes from word base on, and the stack lies at the row's end. What lies before base stays.
 pub fn parse(words: &mut [u32], len: usize, from: usize, base: usize) -> Read
-    requires begins { ⌜ from ≤ len ⌝ }
-    requires before { ⌜ len ≤ base ⌝ }
-    requires short { ⌜ len < 4294967000 ⌝ }
-    requires room { ⌜ base + 9 * len + 64 ≤ length (now words) ⌝ }
-    ensures kept { λ _. ⌜ take base (now (words .exit)) ≡ take base (now (words .entry)) ⌝ }
-    ensures reads { λ r. ⌜ ReadSays (take len (now (words .entry))) len base from (now (words .exit)) r ⌝ }
+    requires begins { from ≤ len }
+    requires before { len ≤ base }
+    requires short { len < 4294967000 }
+    requires room { base + 9 * len + 64 ≤ length words.old }
+    ensures kept { take base words.new ≡ take base words.old }
+    ensures reads { ReadSays (take len words.old) len base from words.new result }
 {
     let b = Bounds { len, base };
     let mut phase = Phase::Begin;

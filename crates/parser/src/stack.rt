@@ -1,13 +1,8 @@
 // The stack in words: four words a frame, from the row's end downwards.
-ghost use denote.Ref.{now};
-ghost use mathlib.Core.Path.{_≡_};
-ghost use mathlib.Core.List.{List, [], _∷_};
-ghost use Prim.Native.Nat.{ℕ, _+_, _*_, _-_, _<_, _≤_};
-ghost use lib.ListN.{length, take};
-ghost use Rattle·parser·specs.Rows.{«frame-of», frames, «frames-of», «frame-is»};
-use crate::code::Span;
-use crate::code::number_of;
-use crate::code::sign;
+ghost use Rattle.std.specs.Prelude.{◌≡◌, ℕ, ◌+◌, ◌-◌, ◌*◌, ◌<◌, ◌≤◌, List, [], ◌∷◌, length, take};
+ghost use Rattle.parser.specs.Rows.{frame_of, frames, frames_of, frame_is};
+
+use crate::code::{Span, number_of, sign};
 use lexer::token::Operator;
 
 // What waits for a value: brackets that began here; a call, where in the code it begins and how many arguments it has so far;
@@ -26,7 +21,7 @@ pub enum Frame {
 
 // The words of a frame.
 fn pack_frame(f: Frame) -> [u32; 4]
-    ensures { λ r. ⌜ ((line : List ℕ) → frames line r ≡ «frame-is» line f ∷ []) ⌝ }
+    ensures { (line : List ℕ) → frames line result ≡ frame_is line f ∷ [] }
 {
     match f {
         Frame::Par(a) => [0, a, 0, 0],
@@ -42,7 +37,7 @@ fn pack_frame(f: Frame) -> [u32; 4]
 
 // The frame of four words.
 fn unpack_frame(tag: u32, a: u32, b: u32, c: u32) -> Frame
-    ensures { λ r. ⌜ ((line : List ℕ) → «frame-is» line r ≡ «frame-of» line tag a b c) ⌝ }
+    ensures { (line : List ℕ) → frame_is line result ≡ frame_of line tag a b c }
 {
     match tag {
         0 => Frame::Par(a),
@@ -58,9 +53,9 @@ fn unpack_frame(tag: u32, a: u32, b: u32, c: u32) -> Frame
 
 // One frame more on d of them.
 pub fn push(words: &mut [u32], d: usize, f: Frame)
-    requires { ⌜ 4 * d + 4 ≤ length (now words) ⌝ }
-    ensures adds { λ _. ⌜ ((line : List ℕ) → «frames-of» line (d + 1) (now (words .exit)) ≡ «frame-is» line f ∷ «frames-of» line d (now (words .entry))) ⌝ }
-    ensures below { λ _. ⌜ ((m : ℕ) → m + 4 * d + 4 ≤ length (now (words .entry)) → take m (now (words .exit)) ≡ take m (now (words .entry))) ⌝ }
+    requires { 4 * d + 4 ≤ length words.old }
+    ensures adds { (line : List ℕ) → frames_of line (d + 1) words.new ≡ frame_is line f ∷ frames_of line d words.old }
+    ensures below { (m : ℕ) → m + 4 * d + 4 ≤ length words.old → take m words.new ≡ take m words.old }
 {
     let h = words.len() - 4 * d - 4;
     words[h..h + 4].copy_from_slice(&pack_frame(f));
@@ -68,8 +63,8 @@ pub fn push(words: &mut [u32], d: usize, f: Frame)
 
 // The newest of d frames.
 pub fn newest(words: &[u32], d: usize) -> Frame
-    requires { ⌜ 0 < d ⌝ ∗ ⌜ 4 * d ≤ length (now words) ⌝ }
-    ensures { λ r. ⌜ ((line : List ℕ) → «frames-of» line d (now (words .entry)) ≡ «frame-is» line r ∷ «frames-of» line (d - 1) (now (words .entry))) ⌝ }
+    requires { (0 < d) × (4 * d ≤ length words.now) }
+    ensures { (line : List ℕ) → frames_of line d words.now ≡ frame_is line result ∷ frames_of line (d - 1) words.now }
 {
     let h = words.len() - 4 * d;
     unpack_frame(words[h], words[h + 1], words[h + 2], words[h + 3])

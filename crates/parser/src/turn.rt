@@ -1,13 +1,9 @@
 // What a turn of the parser begins with, what it comes to, and what turns share. No turn can fail for want of room: its caller has seen to that.
-ghost use denote.Ref.{now};
-ghost use Prim.Native.Nat.{_<_, _≤_};
-ghost use lib.ListN.{length};
-ghost use Rattle·parser·specs.Rows.{«op-is», «frame-is», «line-of», NextSays, Ready, Does, puts, waits, «puts-waits»};
-use crate::code::Op;
-use crate::code::Span;
-use crate::code::emit;
-use crate::stack::Frame;
-use crate::stack::push;
+ghost use Rattle.std.specs.Prelude.{◌<◌, ◌≤◌, length};
+ghost use Rattle.parser.specs.Rows.{op_is, frame_is, line_of, NextSays, Ready, Does, puts, waits, puts_waits};
+
+use crate::code::{Op, Span, emit};
+use crate::stack::{Frame, push};
 use lexer::reader::peek;
 use lexer::token::Token;
 
@@ -60,8 +56,8 @@ pub enum Turn {
 
 // The next piece from a place on.
 pub fn look(words: &[u32], len: usize, at: usize) -> Next
-    requires { ⌜ len ≤ length (now words) ⌝ ∗ ⌜ len < 4294967000 ⌝ ∗ ⌜ «at» ≤ len ⌝ }
-    ensures { λ r. ⌜ NextSays len (now (words .entry)) «at» r ⌝ }
+    requires { (len ≤ length words.now) × ((len < 4294967000) × («at» ≤ len)) }
+    ensures { NextSays len words.now «at» result }
 {
     let s = peek(&words[..len], at);
     Next {
@@ -75,8 +71,8 @@ pub fn look(words: &[u32], len: usize, at: usize) -> Next
 
 // One operation more, and a value of a level is there.
 pub fn put(words: &mut [u32], b: Bounds, p: Place, op: Op, l: u32) -> Turn
-    requires { ⌜ Ready 9 b p (now words) ⌝ }
-    ensures { λ r. ⌜ Does b p (now (words .entry)) (now (words .exit)) (puts («op-is» («line-of» b (now (words .entry))) op) l) r ⌝ }
+    requires { Ready 9 b p words.old }
+    ensures { Does b p words.old words.new (puts (op_is (line_of b words.old) op) l) result }
 {
     emit(words, b.base, p.count, op);
     Turn::Go(
@@ -90,8 +86,8 @@ pub fn put(words: &mut [u32], b: Bounds, p: Place, op: Op, l: u32) -> Turn
 
 // A frame waits, for what begins.
 pub fn wait(words: &mut [u32], b: Bounds, p: Place, f: Frame, begins: Phase) -> Turn
-    requires { ⌜ Ready 9 b p (now words) ⌝ }
-    ensures { λ r. ⌜ Does b p (now (words .entry)) (now (words .exit)) (waits («frame-is» («line-of» b (now (words .entry))) f) begins) r ⌝ }
+    requires { Ready 9 b p words.old }
+    ensures { Does b p words.old words.new (waits (frame_is (line_of b words.old) f) begins) result }
 {
     push(words, p.depth, f);
     Turn::Go(
@@ -105,8 +101,8 @@ pub fn wait(words: &mut [u32], b: Bounds, p: Place, f: Frame, begins: Phase) -> 
 
 // A frame waits for an expression, behind one operation more.
 pub fn put_wait(words: &mut [u32], b: Bounds, p: Place, op: Op, f: Frame) -> Turn
-    requires { ⌜ Ready 9 b p (now words) ⌝ }
-    ensures { λ r. ⌜ Does b p (now (words .entry)) (now (words .exit)) («puts-waits» («op-is» («line-of» b (now (words .entry))) op) («frame-is» («line-of» b (now (words .entry))) f)) r ⌝ }
+    requires { Ready 9 b p words.old }
+    ensures { Does b p words.old words.new (puts_waits (op_is (line_of b words.old) op) (frame_is (line_of b words.old) f)) result }
 {
     emit(words, b.base, p.count, op);
     push(words, p.depth, f);

@@ -1,36 +1,19 @@
 // Turns at which a value is there: what is next takes it in, or it goes to what waits for it.
-ghost use denote.Ref.{now};
-ghost use mathlib.Core.Path.{_≡_};
-ghost use mathlib.Core.List.{List};
-ghost use Prim.Native.Nat.{ℕ, _*_, _<_, _≤_};
-ghost use lib.ListN.{length};
-ghost use Rattle·lexer.specs.Kinds.{«level-of»};
-ghost use Rattle·grammar.specs.Machine.{«f-par», «f-call», «f-bound», «f-cond», «f-then», base, «do-value», «do-dot», «do-op», pop, made};
-ghost use Rattle·parser·specs.Rows.{«frames-of», «span-of», «line-of», Ready, Few, Does, «after-dot», «goes-to»};
-use crate::code::Op;
-use crate::code::Span;
-use crate::code::emit;
-use crate::code::patch_count;
-use crate::stack::Frame;
-use crate::stack::newest;
-use crate::turn::Bounds;
-use crate::turn::COMPARED;
-use crate::turn::FIELDS;
-use crate::turn::Phase;
-use crate::turn::Place;
-use crate::turn::SMALLEST;
-use crate::turn::Turn;
-use crate::turn::WHOLE;
-use crate::turn::look;
-use crate::turn::put;
-use crate::turn::put_wait;
-use crate::turn::wait;
-use lexer::token::Operator;
-use lexer::token::Token;
+ghost use Rattle.std.specs.Prelude.{◌≡◌, ℕ, ◌*◌, ◌<◌, ◌≤◌, List, length};
+ghost use Rattle.lexer.specs.Kinds.{level_of};
+ghost use Rattle.grammar.specs.Machine.{f_par, f_call, f_bound, f_cond, f_then, base, do_value, do_dot, do_op, pop, made};
+ghost use Rattle.parser.specs.Rows.{frames_of, span_of, line_of, Ready, Few, Does, after_dot, goes_to};
+
+use crate::code::{Op, Span, emit, patch_count};
+use crate::stack::{Frame, newest};
+use crate::turn::{
+    Bounds, COMPARED, FIELDS, Phase, Place, SMALLEST, Turn, WHOLE, look, put, put_wait, wait,
+};
+use lexer::token::{Operator, Token};
 
 // An operator's level, and the level of what it makes.
 fn level(o: Operator) -> u32
-    ensures { λ r. ⌜ r ≡ «level-of» o ⌝ }
+    ensures { result ≡ level_of o }
 {
     match o {
         Operator::Plus | Operator::Minus => 4,
@@ -42,7 +25,7 @@ fn level(o: Operator) -> u32
 }
 
 fn makes(o: Operator) -> u32
-    ensures { λ r. ⌜ r ≡ made («level-of» o) ⌝ }
+    ensures { result ≡ made (level_of o) }
 {
     let l = level(o);
     if l == COMPARED { COMPARED } else { l + 1 }
@@ -50,8 +33,8 @@ fn makes(o: Operator) -> u32
 
 // The level at which what is being read began.
 fn lowest(words: &[u32], d: usize) -> u32
-    requires { ⌜ 4 * d ≤ length (now words) ⌝ }
-    ensures { λ r. ⌜ ((line : List ℕ) → r ≡ base («frames-of» line d (now (words .entry)))) ⌝ }
+    requires { 4 * d ≤ length words.now }
+    ensures { (line : List ℕ) → result ≡ base (frames_of line d words.now) }
 {
     if d == 0 {
         return 1;
@@ -64,8 +47,8 @@ fn lowest(words: &[u32], d: usize) -> u32
 
 // A value of a level is there: what is next takes it in, or it goes to what waits.
 pub fn value(words: &mut [u32], b: Bounds, p: Place, l: u32) -> Turn
-    requires { ⌜ Ready 24 b p (now words) ⌝ ∗ ⌜ Few («frames-of» («line-of» b (now words)) (p .depth) (now words)) ⌝ }
-    ensures { λ r. ⌜ Does b p (now (words .entry)) (now (words .exit)) («do-value» l) r ⌝ }
+    requires { (Ready 24 b p words.old) × (Few (frames_of (line_of b words.old) p.depth words.old)) }
+    ensures { Does b p words.old words.new (do_value l) result }
 {
     if l <= lowest(words, p.depth) {
         return deliver(words, b, p);
@@ -79,8 +62,8 @@ pub fn value(words: &mut [u32], b: Bounds, p: Place, l: u32) -> Turn
 
 // A value of level 7: a field of it, or itself as one of level 6.
 fn dot(words: &mut [u32], b: Bounds, p: Place) -> Turn
-    requires { ⌜ Ready 24 b p (now words) ⌝ }
-    ensures { λ r. ⌜ Does b p (now (words .entry)) (now (words .exit)) «do-dot» r ⌝ }
+    requires { Ready 24 b p words.old }
+    ensures { Does b p words.old words.new do_dot result }
 {
     let s = look(words, b.len, p.at);
     let q = Place {
@@ -95,8 +78,8 @@ fn dot(words: &mut [u32], b: Bounds, p: Place) -> Turn
 
 // Behind a dot.
 fn field(words: &mut [u32], b: Bounds, p: Place) -> Turn
-    requires { ⌜ Ready 24 b p (now words) ⌝ }
-    ensures { λ r. ⌜ Does b p (now (words .entry)) (now (words .exit)) «after-dot» r ⌝ }
+    requires { Ready 24 b p words.old }
+    ensures { Does b p words.old words.new after_dot result }
 {
     let s = look(words, b.len, p.at);
     let q = Place {
@@ -111,8 +94,8 @@ fn field(words: &mut [u32], b: Bounds, p: Place) -> Turn
 
 // A value of a level: an operator of that level takes it, or it is one of that level.
 fn operation(words: &mut [u32], b: Bounds, p: Place, j: u32) -> Turn
-    requires { ⌜ Ready 24 b p (now words) ⌝ }
-    ensures { λ r. ⌜ Does b p (now (words .entry)) (now (words .exit)) («do-op» j) r ⌝ }
+    requires { Ready 24 b p words.old }
+    ensures { Does b p words.old words.new (do_op j) result }
 {
     let s = look(words, b.len, p.at);
     let Token::Sign(o) = s.token else {
@@ -130,8 +113,8 @@ fn operation(words: &mut [u32], b: Bounds, p: Place, j: u32) -> Turn
 
 // A value goes to what waits for it.
 fn deliver(words: &mut [u32], b: Bounds, p: Place) -> Turn
-    requires { ⌜ Ready 24 b p (now words) ⌝ ∗ ⌜ Few («frames-of» («line-of» b (now words)) (p .depth) (now words)) ⌝ }
-    ensures { λ r. ⌜ Does b p (now (words .entry)) (now (words .exit)) pop r ⌝ }
+    requires { (Ready 24 b p words.old) × (Few (frames_of (line_of b words.old) p.depth words.old)) }
+    ensures { Does b p words.old words.new pop result }
 {
     if p.depth == 0 {
         return Turn::Won(p);
@@ -154,8 +137,8 @@ fn deliver(words: &mut [u32], b: Bounds, p: Place) -> Turn
 
 // A value stands in brackets that began at a place.
 fn close(words: &mut [u32], b: Bounds, p: Place, n: u32) -> Turn
-    requires { ⌜ Ready 24 b p (now words) ⌝ }
-    ensures { λ r. ⌜ Does b p (now (words .entry)) (now (words .exit)) («goes-to» («f-par» n)) r ⌝ }
+    requires { Ready 24 b p words.old }
+    ensures { Does b p words.old words.new (goes_to (f_par n)) result }
 {
     let s = look(words, b.len, p.at);
     let q = Place {
@@ -174,8 +157,8 @@ fn close(words: &mut [u32], b: Bounds, p: Place, n: u32) -> Turn
 
 // A value is an argument of the call that begins at operation f and has k before it.
 fn argument(words: &mut [u32], b: Bounds, p: Place, f: u32, k: u32) -> Turn
-    requires { ⌜ Ready 24 b p (now words) ⌝ ∗ ⌜ k < 4294967295 ⌝ }
-    ensures { λ r. ⌜ Does b p (now (words .entry)) (now (words .exit)) («goes-to» («f-call» f k)) r ⌝ }
+    requires { (Ready 24 b p words.old) × (k < 4294967295) }
+    ensures { Does b p words.old words.new (goes_to (f_call f k)) result }
 {
     let s = look(words, b.len, p.at);
     let behind = s.span.to as usize;
@@ -200,8 +183,8 @@ fn argument(words: &mut [u32], b: Bounds, p: Place, f: u32, k: u32) -> Turn
 
 // A value is what the let that began at a place binds to a name.
 fn bound(words: &mut [u32], b: Bounds, p: Place, n: u32, x: Span) -> Turn
-    requires { ⌜ Ready 24 b p (now words) ⌝ }
-    ensures { λ r. ⌜ Does b p (now (words .entry)) (now (words .exit)) («goes-to» («f-bound» n («span-of» («line-of» b (now (words .entry))) x))) r ⌝ }
+    requires { Ready 24 b p words.old }
+    ensures { Does b p words.old words.new (goes_to (f_bound n (span_of (line_of b words.old) x))) result }
 {
     let s = look(words, b.len, p.at);
     let q = Place {
@@ -216,8 +199,8 @@ fn bound(words: &mut [u32], b: Bounds, p: Place, n: u32, x: Span) -> Turn
 
 // A value is the condition of the if that began at a place.
 fn condition(words: &mut [u32], b: Bounds, p: Place, n: u32) -> Turn
-    requires { ⌜ Ready 24 b p (now words) ⌝ }
-    ensures { λ r. ⌜ Does b p (now (words .entry)) (now (words .exit)) («goes-to» («f-cond» n)) r ⌝ }
+    requires { Ready 24 b p words.old }
+    ensures { Does b p words.old words.new (goes_to (f_cond n)) result }
 {
     let s = look(words, b.len, p.at);
     let q = Place {
@@ -232,8 +215,8 @@ fn condition(words: &mut [u32], b: Bounds, p: Place, n: u32) -> Turn
 
 // A value is the first branch of the if that began at a place.
 fn branch(words: &mut [u32], b: Bounds, p: Place, n: u32) -> Turn
-    requires { ⌜ Ready 24 b p (now words) ⌝ }
-    ensures { λ r. ⌜ Does b p (now (words .entry)) (now (words .exit)) («goes-to» («f-then» n)) r ⌝ }
+    requires { Ready 24 b p words.old }
+    ensures { Does b p words.old words.new (goes_to (f_then n)) result }
 {
     let s = look(words, b.len, p.at);
     let q = Place {

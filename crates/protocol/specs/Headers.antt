@@ -1,69 +1,61 @@
 -- Header lines: a word or two, and numbers, one blank between each; and the bytes that follow a header.
-use mathlib.Core.Path.{_≡_}
-use mathlib.Core.Bool.{Bool, true, false, _&&_}
-use mathlib.Core.List.{List, [], _∷_}
-use Prim.Native.Nat.{ℕ, suc, _+_, _-_}
-use denote.Ref.{RefT, now}
-use lib.Chars.{codes}
-use lib.Dec.{eqb, ltb}
-use lib.ListN.{length, take, drop, getD}
-use Rattle·std.specs.declared.option.Option.{Option as Perhaps}
-use Rattle·std.specs.declared.option.Option.the-variants.{Some, None}
-use Rattle·base.specs.Base.{pick}
-use Rattle·helper.specs.declared.request.Request.{Request}
-use Rattle·helper.specs.Replies.{Call, opens, edited, closes, asks-faults, asks-type, asks-place, call-of}
-use Rattle·protocol·specs.Numbers.{number-of, limit}
-use Rattle·protocol·specs.declared.header.Header.{Header}
-use Rattle·protocol·specs.declared.header.Header.the-variants.{Open, Edit, Close, Faults, TypeAt, DeclaredAt}
+use Rattle.std.specs.Prelude.{◌≡◌, ℕ, suc, ◌+◌, ◌-◌, Bool, true, false, ◌&&◌, List, [], ◌∷◌, length, take, drop, Some, None, codes, Option as Perhaps, ◌==◌, nat_lt, slice_index}
+use Rattle.std.specs.Borrow.{Bor}
+use Rattle.base.specs.Base.{pick}
+use Rattle.helper.specs.declared.request.Request.{Request}
+use Rattle.helper.specs.Replies.{Call, opens, edited, closes, asks_faults, asks_type, asks_place, call_of}
+use Rattle.protocol.specs.Numbers.{number_of, limit}
+use Rattle.protocol.specs.declared.header.Header.{Header}
+use Rattle.protocol.specs.declared.header.Header.TheVariants.{Open, Edit, Close, Faults, TypeAt, DeclaredAt}
 
 -- bytes that are lent, if any
-abbrev pub held : Perhaps (RefT (List ℕ)) → Perhaps (List ℕ)
+abbrev pub held : Perhaps (Bor (List ℕ)) → Perhaps (List ℕ)
 held None = None
-held (Some s) = Some (now s)
+held (Some s) = Some s.now
 
-abbrev pub then-with : {A B : Type 0} → Perhaps A → (A → Perhaps B) → Perhaps B
-then-with None f = None
-then-with (Some x) f = f x
+abbrev pub then_with : {A B : Type 0} → Perhaps A → (A → Perhaps B) → Perhaps B
+then_with None f = None
+then_with (Some x) f = f x
 
-abbrev pub or-with : {A B : Type 0} → Perhaps A → (A → B) → B → B
-or-with None f b = b
-or-with (Some x) f b = f x
+abbrev pub or_with : {A B : Type 0} → Perhaps A → (A → B) → B → B
+or_with None f b = b
+or_with (Some x) f b = f x
 
 -- what stands behind a word, if bytes begin with it
-abbrev pub behind-word : List ℕ → List ℕ → Perhaps (List ℕ)
-behind-word [] cs = Some cs
-behind-word (w ∷ ws) [] = None
-behind-word (w ∷ ws) (c ∷ cs) = pick (eqb c w) (behind-word ws cs) None
+abbrev pub behind_word : List ℕ → List ℕ → Perhaps (List ℕ)
+behind_word [] cs = Some cs
+behind_word (w ∷ ws) [] = None
+behind_word (w ∷ ws) (c ∷ cs) = pick (c == w) (behind_word ws cs) None
 
 -- how many bytes stand before the first blank
-abbrev pub blank-in : List ℕ → ℕ
-blank-in [] = 0
-blank-in (c ∷ cs) = pick (eqb c 32) 0 (suc (blank-in cs))
+abbrev pub blank_in : List ℕ → ℕ
+blank_in [] = 0
+blank_in (c ∷ cs) = pick (c == 32) 0 (suc (blank_in cs))
 
 -- what stands before the first blank, and behind it
-abbrev pub head-of : List ℕ → List ℕ
-head-of cs = take (blank-in cs) cs
+abbrev pub head_of : List ℕ → List ℕ
+head_of cs = take (blank_in cs) cs
 
-abbrev pub tail-of : List ℕ → List ℕ
-tail-of cs = drop (suc (blank-in cs)) cs
+abbrev pub tail_of : List ℕ → List ℕ
+tail_of cs = drop (suc (blank_in cs)) cs
 
 -- one number, two, four
-abbrev pub with-one : List ℕ → (ℕ → Header) → Perhaps Header
-with-one cs f = then-with (number-of cs) (λ a. Some (f a))
+abbrev pub with_one : List ℕ → (ℕ → Header) → Perhaps Header
+with_one cs f = then_with (number_of cs) (λ a. Some (f a))
 
-abbrev pub with-two : List ℕ → (ℕ → ℕ → Header) → Perhaps Header
-with-two cs f = then-with (number-of (head-of cs)) (λ a. with-one (tail-of cs) (f a))
+abbrev pub with_two : List ℕ → (ℕ → ℕ → Header) → Perhaps Header
+with_two cs f = then_with (number_of (head_of cs)) (λ a. with_one (tail_of cs) (f a))
 
-abbrev pub with-four : List ℕ → (ℕ → ℕ → ℕ → ℕ → Header) → Perhaps Header
-with-four cs f = then-with (number-of (head-of cs)) (λ a. then-with (number-of (head-of (tail-of cs))) (λ b. with-two (tail-of (tail-of cs)) (f a b)))
+abbrev pub with_four : List ℕ → (ℕ → ℕ → ℕ → ℕ → Header) → Perhaps Header
+with_four cs f = then_with (number_of (head_of cs)) (λ a. then_with (number_of (head_of (tail_of cs))) (λ b. with_two (tail_of (tail_of cs)) (f a b)))
 
 -- what a header line says, if it is one
-abbrev pub header-of : List ℕ → Perhaps Header
-header-of cs = or-with (behind-word (codes "open ") cs) (λ r. with-two r Open) (or-with (behind-word (codes "edit ") cs) (λ r. with-four r Edit) (or-with (behind-word (codes "close ") cs) (λ r. with-one r Close) (or-with (behind-word (codes "faults ") cs) (λ r. with-one r Faults) (or-with (behind-word (codes "type at ") cs) (λ r. with-two r TypeAt) (or-with (behind-word (codes "declared at ") cs) (λ r. with-two r DeclaredAt) None)))))
+abbrev pub header_of : List ℕ → Perhaps Header
+header_of cs = or_with (behind_word (codes "open ") cs) (λ r. with_two r Open) (or_with (behind_word (codes "edit ") cs) (λ r. with_four r Edit) (or_with (behind_word (codes "close ") cs) (λ r. with_one r Close) (or_with (behind_word (codes "faults ") cs) (λ r. with_one r Faults) (or_with (behind_word (codes "type at ") cs) (λ r. with_two r TypeAt) (or_with (behind_word (codes "declared at ") cs) (λ r. with_two r DeclaredAt) None)))))
 
 -- a line's bytes without the byte 10 that ends it
-abbrev pub ended-of : List ℕ → Perhaps (List ℕ)
-ended-of cs = pick (ltb 0 (length cs) && eqb (getD cs (length cs - 1) 0) 10) (Some (take (length cs - 1) cs)) None
+abbrev pub ended_of : List ℕ → Perhaps (List ℕ)
+ended_of cs = pick (nat_lt 0 (length cs) && slice_index cs (length cs - 1) == 10) (Some (take (length cs - 1) cs)) None
 
 -- how many bytes are counted behind a header: the name, and a text
 abbrev pub counted : Header → ℕ
@@ -75,26 +67,26 @@ counted (TypeAt n k) = n
 counted (DeclaredAt n k) = n
 
 -- that number, where it is below the limit
-abbrev pub sum-of : ℕ → ℕ → Perhaps ℕ
-sum-of n m = pick (ltb (n + m) limit) (Some (n + m)) None
+abbrev pub sum_of : ℕ → ℕ → Perhaps ℕ
+sum_of n m = pick (nat_lt (n + m) limit) (Some (n + m)) None
 
-abbrev pub counted-of : Header → Perhaps ℕ
-counted-of (Open n m) = sum-of n m
-counted-of (Edit n a b m) = sum-of n m
-counted-of (Close n) = Some n
-counted-of (Faults n) = Some n
-counted-of (TypeAt n k) = Some n
-counted-of (DeclaredAt n k) = Some n
+abbrev pub counted_of : Header → Perhaps ℕ
+counted_of (Open n m) = sum_of n m
+counted_of (Edit n a b m) = sum_of n m
+counted_of (Close n) = Some n
+counted_of (Faults n) = Some n
+counted_of (TypeAt n k) = Some n
+counted_of (DeclaredAt n k) = Some n
 
 -- the call that a header and these bytes are
-abbrev pub call-in : Header → List ℕ → Call
-call-in (Open n m) cs = opens (take n cs) (drop n cs)
-call-in (Edit n a b m) cs = edited (take n cs) a b (drop n cs)
-call-in (Close n) cs = closes cs
-call-in (Faults n) cs = asks-faults cs
-call-in (TypeAt n k) cs = asks-type cs k
-call-in (DeclaredAt n k) cs = asks-place cs k
+abbrev pub call_in : Header → List ℕ → Call
+call_in (Open n m) cs = opens (take n cs) (drop n cs)
+call_in (Edit n a b m) cs = edited (take n cs) a b (drop n cs)
+call_in (Close n) cs = closes cs
+call_in (Faults n) cs = asks_faults cs
+call_in (TypeAt n k) cs = asks_type cs k
+call_in (DeclaredAt n k) cs = asks_place cs k
 
 abbrev pub RequestSays : Header → List ℕ → Perhaps Request → Type 0
-RequestSays h cs (Some r) = (length cs ≡ counted h) × (call-of r ≡ call-in h cs)
+RequestSays h cs (Some r) = (length cs ≡ counted h) × (call_of r ≡ call_in h cs)
 RequestSays h cs None = length cs ≡ counted h → ⊥

@@ -1,8 +1,8 @@
 // Header lines: which call, how long the name and the text behind it are, and the places that the call has.
-ghost use mathlib.Core.Path.{_≡_};
-ghost use mathlib.Core.List.{_∷_, []};
-ghost use Rattle·protocol·specs.Headers.{held, «behind-word», «blank-in», «head-of», «tail-of», «with-one», «with-two», «with-four», «header-of», «counted-of», RequestSays, «ended-of»};
-ghost use Rattle·protocol·specs.declared.header.Header.{Header};
+ghost use Rattle.std.specs.Prelude.{◌≡◌, [], ◌∷◌};
+ghost use Rattle.protocol.specs.Headers.{held, behind_word, blank_in, head_of, tail_of, with_one, with_two, with_four, header_of, counted_of, RequestSays, ended_of};
+ghost use Rattle.protocol.specs.declared.header.Header.{Header};
+
 use crate::number::number;
 use helper::request::Request;
 
@@ -37,7 +37,7 @@ pub enum Header {
 
 // What stands behind a word, if the line begins with it.
 fn behind<'a>(line: &'a [u8], word: &[u8]) -> Option<&'a [u8]>
-    ensures { λ r. ⌜ held r ≡ «behind-word» (now (word .entry)) (now (line .entry)) ⌝ }
+    ensures { held result ≡ behind_word word.now line.now }
 {
     for (i, w) in word.iter().enumerate() {
         if i >= line.len() {
@@ -52,7 +52,7 @@ fn behind<'a>(line: &'a [u8], word: &[u8]) -> Option<&'a [u8]>
 
 // How many bytes stand before the first blank.
 fn blank(bytes: &[u8]) -> usize
-    ensures { λ r. ⌜ r ≡ «blank-in» (now (bytes .entry)) ⌝ }
+    ensures { result ≡ blank_in bytes.now }
 {
     for (i, c) in bytes.iter().enumerate() {
         if *c == b' ' {
@@ -64,7 +64,7 @@ fn blank(bytes: &[u8]) -> usize
 
 // What stands before the first blank.
 fn head(bytes: &[u8]) -> &[u8]
-    ensures { λ r. ⌜ now r ≡ «head-of» (now (bytes .entry)) ⌝ }
+    ensures { result.now ≡ head_of bytes.now }
 {
     let end = blank(bytes);
     &bytes[..end.min(bytes.len())]
@@ -72,7 +72,7 @@ fn head(bytes: &[u8]) -> &[u8]
 
 // What stands behind it; nothing where there is no blank.
 fn tail(bytes: &[u8]) -> &[u8]
-    ensures { λ r. ⌜ now r ≡ «tail-of» (now (bytes .entry)) ⌝ }
+    ensures { result.now ≡ tail_of bytes.now }
 {
     let end = blank(bytes);
     if end < bytes.len() {
@@ -83,7 +83,7 @@ fn tail(bytes: &[u8]) -> &[u8]
 }
 
 fn open_header(rest: &[u8]) -> Option<Header>
-    ensures { λ r. ⌜ r ≡ «with-two» (now (rest .entry)) Header.Open ⌝ }
+    ensures { result ≡ with_two rest.now Header.Open }
 {
     let name = number(head(rest))?;
     let text = number(tail(rest))?;
@@ -91,7 +91,7 @@ fn open_header(rest: &[u8]) -> Option<Header>
 }
 
 fn edit_header(rest: &[u8]) -> Option<Header>
-    ensures { λ r. ⌜ r ≡ «with-four» (now (rest .entry)) Header.Edit ⌝ }
+    ensures { result ≡ with_four rest.now Header.Edit }
 {
     let name = number(head(rest))?;
     let places = tail(rest);
@@ -108,21 +108,21 @@ fn edit_header(rest: &[u8]) -> Option<Header>
 }
 
 fn close_header(rest: &[u8]) -> Option<Header>
-    ensures { λ r. ⌜ r ≡ «with-one» (now (rest .entry)) Header.Close ⌝ }
+    ensures { result ≡ with_one rest.now Header.Close }
 {
     let name = number(rest)?;
     Some(Header::Close { name })
 }
 
 fn faults_header(rest: &[u8]) -> Option<Header>
-    ensures { λ r. ⌜ r ≡ «with-one» (now (rest .entry)) Header.Faults ⌝ }
+    ensures { result ≡ with_one rest.now Header.Faults }
 {
     let name = number(rest)?;
     Some(Header::Faults { name })
 }
 
 fn type_header(rest: &[u8]) -> Option<Header>
-    ensures { λ r. ⌜ r ≡ «with-two» (now (rest .entry)) Header.TypeAt ⌝ }
+    ensures { result ≡ with_two rest.now Header.TypeAt }
 {
     let name = number(head(rest))?;
     let place = number(tail(rest))?;
@@ -130,7 +130,7 @@ fn type_header(rest: &[u8]) -> Option<Header>
 }
 
 fn declared_header(rest: &[u8]) -> Option<Header>
-    ensures { λ r. ⌜ r ≡ «with-two» (now (rest .entry)) Header.DeclaredAt ⌝ }
+    ensures { result ≡ with_two rest.now Header.DeclaredAt }
 {
     let name = number(head(rest))?;
     let place = number(tail(rest))?;
@@ -139,7 +139,7 @@ fn declared_header(rest: &[u8]) -> Option<Header>
 
 // What a header line says, if it is one: single blanks, decimal numbers, nothing else.
 pub fn read_header(line: &[u8]) -> Option<Header>
-    ensures { λ r. ⌜ r ≡ «header-of» (now (line .entry)) ⌝ }
+    ensures { result ≡ header_of line.now }
 {
     if let Some(rest) = behind(line, b"open ") {
         return open_header(rest);
@@ -165,7 +165,7 @@ pub fn read_header(line: &[u8]) -> Option<Header>
 impl Header {
     // How many bytes are counted behind the header, if the number fits.
     pub fn counted(&self) -> Option<usize>
-        ensures { λ r. ⌜ r ≡ «counted-of» (now (self .entry)) ⌝ }
+        ensures { result ≡ counted_of self.now }
     {
         match *self {
             Header::Open { name, text } => name.checked_add(text),
@@ -180,7 +180,7 @@ impl Header {
 
 // The request that a header and the bytes counted behind it are, if they are so many.
 pub fn request<'a>(header: &Header, body: &'a [u8]) -> Option<Request<'a>>
-    ensures { λ r. ⌜ RequestSays (now (header .entry)) (now (body .entry)) r ⌝ }
+    ensures { RequestSays header.now body.now result }
 {
     if header.counted()? != body.len() {
         return None;
@@ -208,7 +208,7 @@ pub fn request<'a>(header: &Header, body: &'a [u8]) -> Option<Request<'a>>
 
 // A line without the byte 10 that ends it, if it is there.
 pub fn ended(line: &[u8]) -> Option<&[u8]>
-    ensures { λ r. ⌜ held r ≡ «ended-of» (now (line .entry)) ⌝ }
+    ensures { held result ≡ ended_of line.now }
 {
     match line.len() {
         0 => None,

@@ -1,10 +1,10 @@
 // Decimal numbers.
-ghost use mathlib.Core.Path.{_≡_};
-ghost use Rattle·protocol·specs.Numbers.{«number-of», «digits-value», «one-more»};
+ghost use Rattle.std.specs.Prelude.{◌≡◌};
+ghost use Rattle.protocol.specs.Numbers.{number_of, digits_value, one_more};
 
 // The number with one digit more, if that is a digit and the number fits.
 fn longer(value: usize, c: u8) -> Option<usize>
-    ensures { λ r. ⌜ r ≡ «one-more» value c ⌝ }
+    ensures { result ≡ one_more value c }
 {
     match c {
         b'0'..=b'9' => value.checked_mul(10)?.checked_add((c - b'0') as usize),
@@ -14,7 +14,7 @@ fn longer(value: usize, c: u8) -> Option<usize>
 
 // The value of bytes that are digits, if it fits.
 fn digits(bytes: &[u8]) -> Option<usize>
-    ensures { λ r. ⌜ r ≡ «digits-value» (now (bytes .entry)) ⌝ }
+    ensures { result ≡ digits_value bytes.now }
 {
     let mut value = 0;
     for c in bytes {
@@ -25,7 +25,7 @@ fn digits(bytes: &[u8]) -> Option<usize>
 
 // The number that bytes are: one digit at least, nothing else, and it fits.
 pub fn number(bytes: &[u8]) -> Option<usize>
-    ensures { λ r. ⌜ r ≡ «number-of» (now (bytes .entry)) ⌝ }
+    ensures { result ≡ number_of bytes.now }
 {
     match bytes {
         [] => None,

@@ -1,37 +1,30 @@
 // Replies as lines, written behind what stands in a vector.
-ghost use mathlib.Core.Path.{_≡_};
-ghost use mathlib.Core.List.{[], _∷_, _++_};
-ghost use lib.Chars.{codes};
-ghost use Rattle·std.specs.Of.Vec.{vec-items};
-ghost use Rattle·std.specs.Vec.{made};
-ghost use Rattle·std.specs.Written.{decimal};
-ghost use Rattle·helper.specs.Replies.{«call-of»};
-ghost use Rattle·protocol·specs.Lines.{«change-text», «byte-of», «bytes-of», «name-text», spaced, «faults-text», «of-text», «type-text», «declared-text», «place-text», «answer-text», «reply-text»};
-use helper::contract::Answer;
-use helper::contract::Changed;
-use helper::request::Reply;
-use helper::request::Request;
-use std::alloc::AllocError;
-use std::alloc::Global;
+ghost use Rattle.std.specs.Prelude.{◌≡◌, [], ◌∷◌, ◌++◌, codes, decimal, OnOk};
+ghost use Rattle.helper.specs.Replies.{call_of};
+ghost use Rattle.protocol.specs.Lines.{change_text, byte_of, bytes_of, name_text, spaced, faults_text, of_text, type_text, declared_text, place_text, answer_text, reply_text};
+
+use helper::contract::{Answer, Changed};
+use helper::request::{Reply, Request};
+use std::alloc::{AllocError, Global};
 
 // A number in decimal digits.
 fn push_number(heap: Global, out: &mut Vec<u8>, n: u64) -> Result<(), AllocError>
-    ensures { λ r. ⌜ made r (λ _. vec-items (now (out .exit)) ≡ vec-items (now (out .entry)) ++ decimal n) ⌝ }
+    ensures { OnOk result (out.new.items ≡ out.old.items ++ decimal n) }
 {
-    let digits = format!(heap, "{n}")?;
+    let digits = format!(in heap; "{n}")?;
     out.extend_from_slice(digits.as_bytes())?;
     Ok(())
 }
 
 // The byte that a word of an answer stands for.
 fn byte(word: u64) -> u8
-    ensures { λ r. ⌜ r ≡ «byte-of» word ⌝ }
+    ensures { result ≡ byte_of word }
 {
     if word < 256 { word as u8 } else { b'?' }
 }
 
 fn push_bytes(out: &mut Vec<u8>, words: &[u64]) -> Result<(), AllocError>
-    ensures { λ r. ⌜ made r (λ _. vec-items (now (out .exit)) ≡ vec-items (now (out .entry)) ++ «bytes-of» (now (words .entry))) ⌝ }
+    ensures { OnOk result (out.new.items ≡ out.old.items ++ bytes_of words.now) }
 {
     for w in words {
         out.push(byte(*w))?;
@@ -41,7 +34,7 @@ fn push_bytes(out: &mut Vec<u8>, words: &[u64]) -> Result<(), AllocError>
 
 // A name: how long it is, a blank, and its bytes.
 fn push_name(heap: Global, out: &mut Vec<u8>, words: &[u64]) -> Result<(), AllocError>
-    ensures { λ r. ⌜ made r (λ _. vec-items (now (out .exit)) ≡ vec-items (now (out .entry)) ++ «name-text» (now (words .entry))) ⌝ }
+    ensures { OnOk result (out.new.items ≡ out.old.items ++ name_text words.now) }
 {
     push_number(heap, out, words.len() as u64)?;
     out.push(b' ')?;
@@ -51,7 +44,7 @@ fn push_name(heap: Global, out: &mut Vec<u8>, words: &[u64]) -> Result<(), Alloc
 
 // Numbers, a blank before each.
 fn push_spaced(heap: Global, out: &mut Vec<u8>, words: &[u64]) -> Result<(), AllocError>
-    ensures { λ r. ⌜ made r (λ _. vec-items (now (out .exit)) ≡ vec-items (now (out .entry)) ++ spaced (now (words .entry))) ⌝ }
+    ensures { OnOk result (out.new.items ≡ out.old.items ++ spaced words.now) }
 {
     for w in words {
         out.push(b' ')?;
@@ -61,7 +54,7 @@ fn push_spaced(heap: Global, out: &mut Vec<u8>, words: &[u64]) -> Result<(), All
 }
 
 fn push_faults(heap: Global, out: &mut Vec<u8>, words: &[u64]) -> Result<(), AllocError>
-    ensures { λ r. ⌜ made r (λ _. vec-items (now (out .exit)) ≡ vec-items (now (out .entry)) ++ «faults-text» (now (words .entry))) ⌝ }
+    ensures { OnOk result (out.new.items ≡ out.old.items ++ faults_text words.now) }
 {
     out.extend_from_slice(b"faults")?;
     push_spaced(heap, out, words)?;
@@ -75,7 +68,7 @@ fn push_named_type(
     file: &[u64],
     name: &[u64],
 ) -> Result<(), AllocError>
-    ensures { λ r. ⌜ made r (λ _. vec-items (now (out .exit)) ≡ vec-items (now (out .entry)) ++ «of-text» (now (file .entry)) (now (name .entry))) ⌝ }
+    ensures { OnOk result (out.new.items ≡ out.old.items ++ of_text file.now name.now) }
 {
     out.extend_from_slice(b"type of ")?;
     push_name(heap, out, file)?;
@@ -92,7 +85,7 @@ fn push_declared(
     behind: u64,
     file: &[u64],
 ) -> Result<(), AllocError>
-    ensures { λ r. ⌜ made r (λ _. vec-items (now (out .exit)) ≡ vec-items (now (out .entry)) ++ «declared-text» «from» behind (now (file .entry))) ⌝ }
+    ensures { OnOk result (out.new.items ≡ out.old.items ++ declared_text from behind file.now) }
 {
     out.extend_from_slice(b"declared ")?;
     push_number(heap, out, from)?;
@@ -104,7 +97,7 @@ fn push_declared(
 }
 
 fn push_type(heap: Global, out: &mut Vec<u8>, words: &[u64]) -> Result<(), AllocError>
-    ensures { λ r. ⌜ made r (λ _. vec-items (now (out .exit)) ≡ vec-items (now (out .entry)) ++ «type-text» (now (words .entry))) ⌝ }
+    ensures { OnOk result (out.new.items ≡ out.old.items ++ type_text words.now) }
 {
     match words {
         [1, ..] => out.extend_from_slice(b"type num")?,
@@ -119,7 +112,7 @@ fn push_type(heap: Global, out: &mut Vec<u8>, words: &[u64]) -> Result<(), Alloc
 }
 
 fn push_place(heap: Global, out: &mut Vec<u8>, words: &[u64]) -> Result<(), AllocError>
-    ensures { λ r. ⌜ made r (λ _. vec-items (now (out .exit)) ≡ vec-items (now (out .entry)) ++ «place-text» (now (words .entry))) ⌝ }
+    ensures { OnOk result (out.new.items ≡ out.old.items ++ place_text words.now) }
 {
     match words {
         [from, behind, file @ ..] => push_declared(heap, out, *from, *behind, file)?,
@@ -135,7 +128,7 @@ fn push_answer(
     request: &Request,
     words: &[u64],
 ) -> Result<(), AllocError>
-    ensures { λ r. ⌜ made r (λ _. vec-items (now (out .exit)) ≡ vec-items (now (out .entry)) ++ «answer-text» («call-of» (now (request .entry))) (now (words .entry))) ⌝ }
+    ensures { OnOk result (out.new.items ≡ out.old.items ++ answer_text (call_of request.now) words.now) }
 {
     match *request {
         Request::Faults { .. } => push_faults(heap, out, words)?,
@@ -148,7 +141,7 @@ fn push_answer(
 
 // What is said of a change.
 fn change_text(changed: Changed) -> &'static [u8]
-    ensures { λ r. ⌜ now r ≡ «change-text» changed ⌝ }
+    ensures { result.now ≡ change_text changed }
 {
     match changed {
         Changed::Made => b"made",
@@ -166,7 +159,7 @@ fn push_told(
     words: &[u64],
     told: u64,
 ) -> Result<(), AllocError>
-    ensures { λ r. ⌜ made r (λ _. vec-items (now (out .exit)) ≡ vec-items (now (out .entry)) ++ («answer-text» («call-of» (now (request .entry))) (now (words .entry)) ++ (codes " told " ++ decimal told))) ⌝ }
+    ensures { OnOk result (out.new.items ≡ out.old.items ++ (answer_text (call_of request.now) words.now ++ (codes " told " ++ decimal told))) }
 {
     push_answer(heap, out, request, words)?;
     out.extend_from_slice(b" told ")?;
@@ -176,7 +169,7 @@ fn push_told(
 
 // That an answer has n words and the output is too short for them.
 fn push_full(heap: Global, out: &mut Vec<u8>, n: usize) -> Result<(), AllocError>
-    ensures { λ r. ⌜ made r (λ _. vec-items (now (out .exit)) ≡ vec-items (now (out .entry)) ++ (codes "output full " ++ decimal n)) ⌝ }
+    ensures { OnOk result (out.new.items ≡ out.old.items ++ (codes "output full " ++ decimal n)) }
 {
     out.extend_from_slice(b"output full ")?;
     push_number(heap, out, n as u64)?;
@@ -191,7 +184,7 @@ fn push_reply(
     words: &[u64],
     told: u64,
 ) -> Result<(), AllocError>
-    ensures { λ r. ⌜ made r (λ _. vec-items (now (out .exit)) ≡ vec-items (now (out .entry)) ++ «reply-text» («call-of» (now (request .entry))) (now (reply .entry)) (now (words .entry)) told) ⌝ }
+    ensures { OnOk result (out.new.items ≡ out.old.items ++ reply_text (call_of request.now) reply.now words.now told) }
 {
     match *reply {
         Reply::Changed(changed) => out.extend_from_slice(change_text(changed))?,
@@ -213,7 +206,7 @@ pub fn write_reply(
     words: &[u64],
     told: u64,
 ) -> Result<(), AllocError>
-    ensures { λ r. ⌜ made r (λ _. vec-items (now (out .exit)) ≡ (vec-items (now (out .entry)) ++ «reply-text» («call-of» (now (request .entry))) (now (reply .entry)) (now (words .entry)) told) ++ (10 ∷ [])) ⌝ }
+    ensures { OnOk result (out.new.items ≡ (out.old.items ++ reply_text (call_of request.now) reply.now words.now told) ++ (10 ∷ [])) }
 {
     push_reply(heap, out, request, reply, words, told)?;
     out.push(b'\n')?;
@@ -222,7 +215,7 @@ pub fn write_reply(
 
 // That a line isn't understood, as a line behind what stands in out.
 pub fn write_not_understood(out: &mut Vec<u8>) -> Result<(), AllocError>
-    ensures { λ r. ⌜ made r (λ _. vec-items (now (out .exit)) ≡ vec-items (now (out .entry)) ++ codes "not understood\n") ⌝ }
+    ensures { OnOk result (out.new.items ≡ out.old.items ++ codes "not understood\n") }
 {
     out.extend_from_slice(b"not understood\n")
 }

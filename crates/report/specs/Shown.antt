@@ -1,21 +1,17 @@
 -- How a line and the mark under a place of it are shown.
-use mathlib.Core.Bool.{Bool, _&&_, _||_}
-use mathlib.Core.List.{List, [], _∷_, _++_}
-use Prim.Native.Nat.{ℕ, zero, suc, _-_}
-use lib.ListN.{replicate}
-use lib.Dec.{eqb, leb, ltb}
-use Rattle·base.specs.Base.{pick}
+use Rattle.std.specs.Prelude.{ℕ, zero, suc, ◌-◌, Bool, ◌&&◌, ◌||◌, List, [], ◌∷◌, ◌++◌, replicate, ◌==◌, nat_le, nat_lt}
+use Rattle.base.specs.Base.{pick}
 
 -- a byte that can be printed is itself; a tab or a return a blank; any other a question mark: one sign for one byte
 abbrev pub shown : ℕ → ℕ
-shown c = pick (leb 32 c && leb c 126) c (pick (eqb c 9 || eqb c 13) 32 63)
+shown c = pick (nat_le 32 c && nat_le c 126) c (pick (c == 9 || c == 13) 32 63)
 
-abbrev pub all-shown : List ℕ → List ℕ
-all-shown [] = []
-all-shown (c ∷ cs) = shown c ∷ all-shown cs
+abbrev pub all_shown : List ℕ → List ℕ
+all_shown [] = []
+all_shown (c ∷ cs) = shown c ∷ all_shown cs
 
 abbrev pub wide : ℕ → ℕ → ℕ
-wide from to = pick (ltb from to) (to - from) 1
+wide from to = pick (nat_lt from to) (to - from) 1
 
 -- blanks up to the place, and a mark for each byte of the piece, or one behind the last piece
 abbrev pub mark : ℕ → ℕ → List ℕ

@@ -1,16 +1,12 @@
 // How a fault is shown to a person: the line itself, one sign a byte, and a mark under the place.
-ghost use mathlib.Core.Path.{_≡_};
-ghost use mathlib.Core.List.{_++_};
-ghost use Prim.Native.Nat.{ℕ, _-_};
-ghost use lib.ListN.{replicate};
-ghost use Rattle·std.specs.Of.Vec.{vec-items};
-ghost use Rattle·std.specs.Vec.{made};
-ghost use Rattle·report·specs.Shown.{shown, «all-shown», wide, mark};
+ghost use Rattle.std.specs.Prelude.{◌≡◌, ℕ, ◌-◌, ◌++◌, replicate, OnOk};
+ghost use Rattle.report.specs.Shown.{shown, all_shown, wide, mark};
+
 use std::alloc::AllocError;
 
 // A byte as it is shown.
 pub fn sign_of(c: u32) -> u8
-    ensures { λ r. ⌜ r ≡ shown c ⌝ }
+    ensures { result ≡ shown c }
 {
     match c {
         32..=126 => c as u8,
@@ -21,7 +17,7 @@ pub fn sign_of(c: u32) -> u8
 
 // The line as it is shown, behind what stands in out.
 pub fn show_line(out: &mut Vec<u8>, line: &[u32]) -> Result<(), AllocError>
-    ensures { λ r. ⌜ made r (λ _. vec-items (now (out .exit)) ≡ vec-items (now (out .entry)) ++ «all-shown» (now (line .entry))) ⌝ }
+    ensures { OnOk result (out.new.items ≡ out.old.items ++ all_shown line.now) }
 {
     for c in line {
         out.push(sign_of(*c))?;
@@ -31,7 +27,7 @@ pub fn show_line(out: &mut Vec<u8>, line: &[u32]) -> Result<(), AllocError>
 
 // A byte n times, behind what stands in out.
 fn repeat(out: &mut Vec<u8>, byte: u8, n: usize) -> Result<(), AllocError>
-    ensures { λ r. ⌜ made r (λ _. vec-items (now (out .exit)) ≡ vec-items (now (out .entry)) ++ replicate n byte) ⌝ }
+    ensures { OnOk result (out.new.items ≡ out.old.items ++ replicate n byte) }
 {
     for _ in 0..n {
         out.push(byte)?;
@@ -41,14 +37,14 @@ fn repeat(out: &mut Vec<u8>, byte: u8, n: usize) -> Result<(), AllocError>
 
 // How wide the mark is: as the piece, or one sign behind the last piece.
 fn width(from: usize, to: usize) -> usize
-    ensures { λ r. ⌜ r ≡ wide «from» to ⌝ }
+    ensures { result ≡ wide from to }
 {
     if from < to { to - from } else { 1 }
 }
 
 // The mark under the bytes from a place to another, behind what stands in out.
 pub fn show_mark(out: &mut Vec<u8>, from: usize, to: usize) -> Result<(), AllocError>
-    ensures { λ r. ⌜ made r (λ _. vec-items (now (out .exit)) ≡ vec-items (now (out .entry)) ++ mark «from» to) ⌝ }
+    ensures { OnOk result (out.new.items ≡ out.old.items ++ mark from to) }
 {
     repeat(out, b' ', from)?;
     repeat(out, b'^', width(from, to))?;

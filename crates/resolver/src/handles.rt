@@ -1,30 +1,20 @@
 // What is declared at a handle, its types by the names that they have in its own file.
-ghost use denote.Ref.{now};
-ghost use mathlib.Core.Path.{_≡_};
-ghost use Prim.Native.Nat.{ℕ};
-ghost use lib.ListN.{length, drop};
-ghost use Rattle·semantics.specs.Names.{«same-ty»};
-ghost use Rattle·semantics.specs.Walk.{«first-slot»};
-ghost use Rattle·checker.specs.Rows.{Small, SomeSmall, «ty-of», «result-is»};
-ghost use Rattle·resolver·specs.Resolve.{«sort-at», «type-is», «declared-at», origin, FieldIs};
+ghost use Rattle.std.specs.Prelude.{◌≡◌, ℕ, length, drop};
+ghost use Rattle.semantics.specs.Names.{same_ty};
+ghost use Rattle.semantics.specs.Walk.{first_slot};
+ghost use Rattle.checker.specs.Rows.{Small, SomeSmall, ty_of, result_is};
+ghost use Rattle.resolver.specs.Resolve.{sort_at, type_is, declared_at, origin, FieldIs};
+
 use crate::names::type_named;
-use crate::parts::decl_name;
-use crate::parts::decl_type;
-use crate::parts::field_count;
-use crate::parts::field_name;
-use crate::parts::field_type;
-use crate::parts::file_name;
-use crate::parts::file_of;
+use crate::parts::{decl_name, decl_type, field_count, field_name, field_type, file_name, file_of};
 use crate::search::LIMIT;
 use base::same_word;
-use checker::lookup::Sort;
-use checker::lookup::Type;
-use checker::lookup::TypeId;
+use checker::lookup::{Sort, Type, TypeId};
 use symbols::read::word_at;
 
 // Its sort. What lies past the limit is no type.
 pub fn sort_at(words: &[u32], d: u32) -> Sort
-    ensures { λ r. ⌜ r ≡ «sort-at» (now (words .entry)) d ⌝ }
+    ensures { result ≡ sort_at words.now d }
 {
     if d as usize >= LIMIT {
         return Sort::Def;
@@ -39,8 +29,8 @@ pub fn sort_at(words: &[u32], d: u32) -> Sort
 
 // Its type: of a kind or a record itself.
 pub fn result_at(words: &[u32], x: usize, d: u32) -> Type
-    ensures small { λ r. ⌜ Small r ⌝ }
-    ensures is { λ r. ⌜ «type-is» (now (words .entry)) x r ≡ «result-is» («declared-at» (now (words .entry)) x d) ⌝ }
+    ensures small { Small result }
+    ensures is { type_is words.now x result ≡ result_is (declared_at words.now x d) }
 {
     match sort_at(words, d) {
         Sort::Kind => Type::Of(TypeId(d)),
@@ -51,15 +41,15 @@ pub fn result_at(words: &[u32], x: usize, d: u32) -> Type
 
 // How many fields or parameters it has.
 pub fn slot_count(words: &[u32], d: u32) -> u32
-    ensures { λ r. ⌜ ((x : ℕ) → r ≡ length («declared-at» (now (words .entry)) x d .slots)) ⌝ }
+    ensures { (x : ℕ) → result ≡ length (declared_at words.now x d).slots }
 {
     field_count(words, d)
 }
 
 // The type of the one with an index.
 pub fn slot_at(words: &[u32], x: usize, d: u32, index: u32) -> Type
-    ensures small { λ r. ⌜ Small r ⌝ }
-    ensures is { λ r. ⌜ «type-is» (now (words .entry)) x r ≡ «first-slot» (drop index («declared-at» (now (words .entry)) x d .slots)) ⌝ }
+    ensures small { Small result }
+    ensures is { type_is words.now x result ≡ first_slot (drop index (declared_at words.now x d).slots) }
 {
     if index < field_count(words, d) {
         type_named(words, x, file_of(words, d), field_type(words, d, index))
@@ -70,8 +60,8 @@ pub fn slot_at(words: &[u32], x: usize, d: u32, index: u32) -> Type
 
 // The type of the first one of a name.
 pub fn field_at(words: &[u32], x: usize, d: u32, name: &[u32]) -> Option<Type>
-    ensures small { λ r. ⌜ SomeSmall r ⌝ }
-    ensures is { λ r. ⌜ FieldIs (now (words .entry)) x («declared-at» (now (words .entry)) x d .slots) (now (name .entry)) r ⌝ }
+    ensures small { SomeSmall result }
+    ensures is { FieldIs words.now x (declared_at words.now x d).slots name.now result }
 {
     let k = file_of(words, d);
     for i in 0..field_count(words, d) {
@@ -84,7 +74,7 @@ pub fn field_at(words: &[u32], x: usize, d: u32, name: &[u32]) -> Option<Type>
 
 // Whether two types are the same: their files' names and their names.
 pub fn same_type(words: &[u32], x: usize, a: u32, b: u32) -> bool
-    ensures { λ r. ⌜ r ≡ «same-ty» («ty-of» (origin (now (words .entry)) x a)) («ty-of» (origin (now (words .entry)) x b)) ⌝ }
+    ensures { result ≡ same_ty (ty_of (origin words.now x a)) (ty_of (origin words.now x b)) }
 {
     if a == b {
         return true;

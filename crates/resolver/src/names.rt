@@ -1,22 +1,19 @@
 // What names mean in a file.
-ghost use denote.Ref.{now};
-ghost use mathlib.Core.Path.{_≡_};
-ghost use Rattle·checker.specs.Rows.{Small};
-ghost use Rattle·resolver·specs.Resolve.{also, «found-or», «among-used», meaning, «found-type», «type-named»};
-ghost use Rattle·checker.specs.declared.lookup.Meaning.the-variants.{Unknown};
-ghost use Rattle·symbols.specs.Table.{«used-in»};
+ghost use Rattle.std.specs.Prelude.{◌≡◌};
+ghost use Rattle.checker.specs.Rows.{Small};
+ghost use Rattle.resolver.specs.Resolve.{also, found_or, among_used, meaning, found_type, type_named};
+ghost use Rattle.checker.specs.declared.lookup.Meaning.TheVariants.{Unknown};
+ghost use Rattle.symbols.specs.Table.{used_in};
+
 use crate::parts::used_in;
 use crate::search::own;
 use base::same_word;
-use checker::lookup::Meaning;
-use checker::lookup::SigId;
-use checker::lookup::Type;
-use checker::lookup::TypeId;
+use checker::lookup::{Meaning, SigId, Type, TypeId};
 use symbols::read::word_at;
 
 // What was found among used files so far, and in one more of them.
 fn also(found: Option<u32>, before: Meaning) -> Meaning
-    ensures { λ r. ⌜ r ≡ also found before ⌝ }
+    ensures { result ≡ also found before }
 {
     match found {
         None => before,
@@ -29,7 +26,7 @@ fn also(found: Option<u32>, before: Meaning) -> Meaning
 
 // What is found, else what is given.
 pub fn found_or(found: Option<u32>, other: Meaning) -> Meaning
-    ensures { λ r. ⌜ r ≡ «found-or» found other ⌝ }
+    ensures { result ≡ found_or found other }
 {
     match found {
         None => other,
@@ -39,7 +36,7 @@ pub fn found_or(found: Option<u32>, other: Meaning) -> Meaning
 
 // What the files declare under a name that a file uses.
 fn among_used(words: &[u32], x: usize, k: usize, name: &[u32]) -> Meaning
-    ensures { λ r. ⌜ r ≡ «among-used» (now (words .entry)) x (now (name .entry)) («used-in» (now (words .entry)) x k) Unknown ⌝ }
+    ensures { result ≡ among_used words.now x name.now (used_in words.now x k) Unknown }
 {
     let mut m = Meaning::Unknown;
     for g in used_in(words, x, k) {
@@ -50,7 +47,7 @@ fn among_used(words: &[u32], x: usize, k: usize, name: &[u32]) -> Meaning
 
 // What a name means in a file: what that declares, else what the files declare that it uses.
 pub fn meaning(words: &[u32], x: usize, k: usize, name: &[u32]) -> Meaning
-    ensures { λ r. ⌜ r ≡ meaning (now (words .entry)) x k (now (name .entry)) ⌝ }
+    ensures { result ≡ meaning words.now x k name.now }
 {
     match own(words, x, k, name) {
         Some(d) => Meaning::Found(SigId(d)),
@@ -60,7 +57,7 @@ pub fn meaning(words: &[u32], x: usize, k: usize, name: &[u32]) -> Meaning
 
 // The type that is declared there: a kind and a record are types.
 fn found_type(words: &[u32], m: Meaning) -> Type
-    ensures { λ r. ⌜ r ≡ «found-type» (now (words .entry)) m ⌝ }
+    ensures { result ≡ found_type words.now m }
 {
     let Meaning::Found(s) = m else {
         return Type::None;
@@ -74,8 +71,8 @@ fn found_type(words: &[u32], m: Meaning) -> Type
 
 // The type that a word names in a file.
 pub fn type_named(words: &[u32], x: usize, k: usize, name: &[u32]) -> Type
-    ensures small { λ r. ⌜ Small r ⌝ }
-    ensures is { λ r. ⌜ r ≡ «type-named» (now (words .entry)) x k (now (name .entry)) ⌝ }
+    ensures small { Small result }
+    ensures is { result ≡ type_named words.now x k name.now }
 {
     match name {
         w if same_word(w, &[110, 117, 109]) => Type::Num,

@@ -1,15 +1,12 @@
 // The parts of the symbol table at a place of a row: of a file by its place in the order, of a declaration by its handle.
-ghost use denote.Ref.{now};
-ghost use mathlib.Core.Path.{_≡_};
-ghost use Prim.Native.Nat.{_+_, _*_};
-ghost use Rattle·symbols.specs.Table.{word, «file-row», «file-name», «used-in», «first-decl», «decl-count», «decl-name», «decl-type», «tok-at»};
-use symbols::read::part_at;
-use symbols::read::text_at;
-use symbols::read::word_at;
+ghost use Rattle.std.specs.Prelude.{◌≡◌, ◌+◌, ◌*◌};
+ghost use Rattle.symbols.specs.Table.{word, file_row, file_name, used_in, first_decl, decl_count, decl_name, decl_type, tok_at};
+
+use symbols::read::{part_at, text_at, word_at};
 
 // The i-th word of a file; a place that is too large for a number lies past the row's end, too.
 fn file_word(words: &[u32], x: usize, k: usize, i: usize) -> u32
-    ensures { λ r. ⌜ r ≡ word (now (words .entry)) («file-row» x k + i) ⌝ }
+    ensures { result ≡ word words.now (file_row x k + i) }
 {
     let row = x.saturating_add(1).saturating_add(k.saturating_mul(6));
     word_at(words, row.saturating_add(i))
@@ -17,7 +14,7 @@ fn file_word(words: &[u32], x: usize, k: usize, i: usize) -> u32
 
 // A file's name.
 pub fn file_name(words: &[u32], x: usize, k: usize) -> &[u32]
-    ensures { λ r. ⌜ now r ≡ «file-name» (now (words .entry)) x k ⌝ }
+    ensures { result.now ≡ file_name words.now x k }
 {
     let from = file_word(words, x, k, 0) as usize;
     text_at(words, from, file_word(words, x, k, 1) as usize)
@@ -25,7 +22,7 @@ pub fn file_name(words: &[u32], x: usize, k: usize) -> &[u32]
 
 // The files that a file uses, each by its place in the order.
 pub fn used_in(words: &[u32], x: usize, k: usize) -> &[u32]
-    ensures { λ r. ⌜ now r ≡ «used-in» (now (words .entry)) x k ⌝ }
+    ensures { result.now ≡ used_in words.now x k }
 {
     let from = file_word(words, x, k, 2) as usize;
     text_at(words, from, file_word(words, x, k, 3) as usize)
@@ -33,27 +30,27 @@ pub fn used_in(words: &[u32], x: usize, k: usize) -> &[u32]
 
 // Where a file's declarations begin, and how many they are.
 pub fn first_decl(words: &[u32], x: usize, k: usize) -> u32
-    ensures { λ r. ⌜ r ≡ «first-decl» (now (words .entry)) x k ⌝ }
+    ensures { result ≡ first_decl words.now x k }
 {
     file_word(words, x, k, 4)
 }
 
 pub fn decl_count(words: &[u32], x: usize, k: usize) -> u32
-    ensures { λ r. ⌜ r ≡ «decl-count» (now (words .entry)) x k ⌝ }
+    ensures { result ≡ decl_count words.now x k }
 {
     file_word(words, x, k, 5)
 }
 
 // A declaration's file, by its place in the order.
 pub fn file_of(words: &[u32], d: u32) -> usize
-    ensures { λ r. ⌜ r ≡ word (now (words .entry)) d ⌝ }
+    ensures { result ≡ word words.now d }
 {
     word_at(words, d as usize) as usize
 }
 
 // A declaration's name, and the word that names its type.
 pub fn decl_name(words: &[u32], d: u32) -> &[u32]
-    ensures { λ r. ⌜ now r ≡ «decl-name» (now (words .entry)) d ⌝ }
+    ensures { result.now ≡ decl_name words.now d }
 {
     let d = d as usize;
     let line = word_at(words, d + 2);
@@ -61,7 +58,7 @@ pub fn decl_name(words: &[u32], d: u32) -> &[u32]
 }
 
 pub fn decl_type(words: &[u32], d: u32) -> &[u32]
-    ensures { λ r. ⌜ now r ≡ «decl-type» (now (words .entry)) d ⌝ }
+    ensures { result.now ≡ decl_type words.now d }
 {
     let d = d as usize;
     let line = word_at(words, d + 2);
@@ -70,14 +67,14 @@ pub fn decl_type(words: &[u32], d: u32) -> &[u32]
 
 // How many fields or parameters a declaration has.
 pub fn field_count(words: &[u32], d: u32) -> u32
-    ensures { λ r. ⌜ r ≡ word (now (words .entry)) (d + 8) ⌝ }
+    ensures { result ≡ word words.now (d + 8) }
 {
     word_at(words, d as usize + 8)
 }
 
 // A field's name, and the word that names its type.
 pub fn field_name(words: &[u32], d: u32, index: u32) -> &[u32]
-    ensures { λ r. ⌜ now r ≡ «tok-at» (now (words .entry)) (word (now (words .entry)) (d + 2)) (d + 9 + 4 * index) .w ⌝ }
+    ensures { result.now ≡ (tok_at words.now (word words.now (d + 2)) (d + 9 + 4 * index)).w }
 {
     let d = d as usize;
     let line = word_at(words, d + 2);
@@ -86,7 +83,7 @@ pub fn field_name(words: &[u32], d: u32, index: u32) -> &[u32]
 }
 
 pub fn field_type(words: &[u32], d: u32, index: u32) -> &[u32]
-    ensures { λ r. ⌜ now r ≡ «tok-at» (now (words .entry)) (word (now (words .entry)) (d + 2)) (d + 9 + 4 * index + 2) .w ⌝ }
+    ensures { result.now ≡ (tok_at words.now (word words.now (d + 2)) (d + 9 + 4 * index + 2)).w }
 {
     let d = d as usize;
     let line = word_at(words, d + 2);

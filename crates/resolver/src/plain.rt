@@ -1,32 +1,15 @@
 // A lookup that works all answers out from a symbol table.
-ghost use denote.Ref.{now};
-ghost use mathlib.Core.Path.{_≡_};
-ghost use lib.ListN.{take};
-ghost use Rattle·checker.specs.Rows.{Within};
-ghost use Rattle·resolver·specs.Resolve.{«plain-book», «looked-in», «other-file»};
-use crate::handles::field_at;
-use crate::handles::result_at;
-use crate::handles::same_type;
-use crate::handles::slot_at;
-use crate::handles::slot_count;
-use crate::handles::sort_at;
-use crate::names::found_or;
-use crate::names::meaning;
-use crate::parts::decl_name;
-use crate::parts::file_name;
-use crate::parts::file_of;
-use crate::search::declared_in;
-use crate::search::file_named;
-use crate::search::own_before;
+ghost use Rattle.std.specs.Prelude.{◌≡◌, take};
+ghost use Rattle.checker.specs.Rows.{Within};
+ghost use Rattle.resolver.specs.Resolve.{plain_book, looked_in, other_file};
+
+use crate::handles::{field_at, result_at, same_type, slot_at, slot_count, sort_at};
+use crate::names::{found_or, meaning};
+use crate::parts::{decl_name, file_name, file_of};
+use crate::search::{declared_in, file_named, own_before};
 use base::same_word;
-use checker::lookup::Lookup;
-use checker::lookup::Meaning;
-use checker::lookup::SigId;
-use checker::lookup::Sort;
-use checker::lookup::Type;
-use checker::lookup::TypeId;
-use checker::rows::Bounds;
-use checker::rows::word_of;
+use checker::lookup::{Lookup, Meaning, SigId, Sort, Type, TypeId};
+use checker::rows::{Bounds, word_of};
 use parser::code::Span;
 use symbols::read::text_at;
 
@@ -44,16 +27,20 @@ pub struct Plain {
 impl Plain {
     // The words that are looked in.
     fn row<'a>(&self, words: &'a [u32], b: Bounds) -> &'a [u32]
-        requires { ⌜ Within b (now words) ⌝ }
-        ensures { λ r. ⌜ now r ≡ «looked-in» (now (self .entry) .from) (now (self .entry) .to) (take (b .base) (now (words .entry))) ⌝ }
+        requires { Within b words.now }
+        ensures { result.now ≡ looked_in self.now.from self.now.to (take b.base words.now) }
     {
-        text_at(&words[..b.base], self.from, self.to.saturating_sub(self.from))
+        text_at(
+            &words[..b.base],
+            self.from,
+            self.to.saturating_sub(self.from),
+        )
     }
 }
 
 // Whether another file has a name.
 fn other_file(words: &[u32], x: usize, k: usize, name: &[u32]) -> bool
-    ensures { λ r. ⌜ r ≡ «other-file» (now (words .entry)) x k (now (name .entry)) ⌝ }
+    ensures { result ≡ other_file words.now x k name.now }
 {
     match file_named(words, x, name) {
         Some(_) => !same_word(name, file_name(words, x, k)),
@@ -61,8 +48,8 @@ fn other_file(words: &[u32], x: usize, k: usize, name: &[u32]) -> bool
     }
 }
 
-pub impl Lookup for Plain as PlainLookup {
-    ghost book = { λ s ws. «plain-book» («looked-in» (s .from) (s .to) ws) (s .index) (s .file) (s .before) };
+impl Lookup for Plain {
+    ghost book = { λ s ws. plain_book (looked_in s.from s.to ws) s.index s.file s.before };
 
     fn here(&self, words: &[u32], b: Bounds, name: Span) -> Option<Meaning> {
         let name = word_of(words, b, name);

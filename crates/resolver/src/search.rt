@@ -1,11 +1,8 @@
 // Declarations and files found by their names.
-ghost use denote.Ref.{now};
-ghost use mathlib.Core.Path.{_≡_};
-ghost use Rattle·resolver·specs.Resolve.{seek, own, «own-before», «named-from», «file-named», «declared-in»};
-use crate::parts::decl_count;
-use crate::parts::decl_name;
-use crate::parts::file_name;
-use crate::parts::first_decl;
+ghost use Rattle.std.specs.Prelude.{◌≡◌};
+ghost use Rattle.resolver.specs.Resolve.{seek, own, own_before, named_from, file_named, declared_in};
+
+use crate::parts::{decl_count, decl_name, file_name, first_decl};
 use base::same_word;
 use symbols::read::word_at;
 
@@ -14,7 +11,7 @@ pub const LIMIT: usize = 4294967290;
 
 // The first of n declarations from a handle on that has a name. Where the row or the limit ends, there is none.
 fn seek(words: &[u32], name: &[u32], n: u32, d: u32) -> Option<u32>
-    ensures { λ r. ⌜ r ≡ seek (now (words .entry)) (now (name .entry)) n d ⌝ }
+    ensures { result ≡ seek words.now name.now n d }
 {
     let end = words.len().min(LIMIT);
     let mut left = n;
@@ -35,7 +32,7 @@ fn seek(words: &[u32], name: &[u32], n: u32, d: u32) -> Option<u32>
 
 // What a file itself declares under a name.
 pub fn own(words: &[u32], x: usize, k: usize, name: &[u32]) -> Option<u32>
-    ensures { λ r. ⌜ r ≡ own (now (words .entry)) x k (now (name .entry)) ⌝ }
+    ensures { result ≡ own words.now x k name.now }
 {
     let first = first_decl(words, x, k);
     seek(words, name, decl_count(words, x, k), first)
@@ -43,7 +40,7 @@ pub fn own(words: &[u32], x: usize, k: usize, name: &[u32]) -> Option<u32>
 
 // The same among its first declarations alone.
 pub fn own_before(words: &[u32], x: usize, k: usize, before: usize, name: &[u32]) -> Option<u32>
-    ensures { λ r. ⌜ r ≡ «own-before» (now (words .entry)) x k before (now (name .entry)) ⌝ }
+    ensures { result ≡ own_before words.now x k before name.now }
 {
     let count = decl_count(words, x, k) as usize;
     let first = first_decl(words, x, k);
@@ -52,7 +49,7 @@ pub fn own_before(words: &[u32], x: usize, k: usize, before: usize, name: &[u32]
 
 // The first file of a name among so many.
 fn first_named(words: &[u32], x: usize, name: &[u32], n: usize) -> Option<usize>
-    ensures { λ r. ⌜ r ≡ «named-from» (now (words .entry)) x (now (name .entry)) n 0 ⌝ }
+    ensures { result ≡ named_from words.now x name.now n 0 }
 {
     for k in 0..n {
         if same_word(file_name(words, x, k), name) {
@@ -64,14 +61,14 @@ fn first_named(words: &[u32], x: usize, name: &[u32], n: usize) -> Option<usize>
 
 // The first file of a name, by its place in the order.
 pub fn file_named(words: &[u32], x: usize, name: &[u32]) -> Option<usize>
-    ensures { λ r. ⌜ r ≡ «file-named» (now (words .entry)) x (now (name .entry)) ⌝ }
+    ensures { result ≡ file_named words.now x name.now }
 {
     first_named(words, x, name, word_at(words, x) as usize)
 }
 
 // The first declaration of a name in the file of a name.
 pub fn declared_in(words: &[u32], x: usize, file: &[u32], name: &[u32]) -> Option<u32>
-    ensures { λ r. ⌜ r ≡ «declared-in» (now (words .entry)) x (now (file .entry)) (now (name .entry)) ⌝ }
+    ensures { result ≡ declared_in words.now x file.now name.now }
 {
     let k = file_named(words, x, file)?;
     own(words, x, k, name)

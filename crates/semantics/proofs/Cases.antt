@@ -1,12 +1,12 @@
 -- Worked texts, answered by the definitions.
-use mathlib.Core.Path.{_≡_, refl}
-use mathlib.Core.List.{List, [], _∷_, _++_}
+use mathlib.Core.Path.{◌≡◌, refl}
+use mathlib.Core.List.{List, [], ◌∷◌, ◌++◌}
 use mathlib.Core.Option.{Option, some, none}
 use Prim.Native.Nat.{ℕ}
 use lib.Chars.{codes}
-use Rattle·base.specs.Base.{Word}
-use Rattle·semantics·specs.Names.{File, Texts}
-use Rattle·semantics·specs.Answers.{faults, type-of, where-is}
+use Rattle.base.specs.Base.{Word}
+use Rattle.semantics.specs.Names.{File, Texts}
+use Rattle.semantics.specs.Answers.{faults, type_of, where_is}
 
 -- a file alone
 abbrev x : Word
@@ -16,17 +16,17 @@ abbrev alone : List ℕ → Texts
 alone t = record { name = x; text = t } ∷ []
 
 -- something is missing behind the last piece: fault 1 where that ends
-small-1 : faults (alone (codes "def f() num = 1 +")) x ≡ some (17 ∷ 17 ∷ 1 ∷ [])
-small-1 = refl
+small_1 : faults (alone (codes "def f() num = 1 +")) x ≡ some (17 ∷ 17 ∷ 1 ∷ [])
+small_1 = refl
 
 -- a constant twice: 4 at the second
-small-2 : faults (alone (codes "kind k = A, A")) x ≡ some (12 ∷ 13 ∷ 4 ∷ [])
-small-2 = refl
+small_2 : faults (alone (codes "kind k = A, A")) x ≡ some (12 ∷ 13 ∷ 4 ∷ [])
+small_2 = refl
 
 -- an argument too many: 6 at the name called
-small-3 : faults (alone (codes "def f() num = f(1)")) x ≡ some (14 ∷ 15 ∷ 6 ∷ [])
-small-3 = refl
+small_3 : faults (alone (codes "def f() num = f(1)")) x ≡ some (14 ∷ 15 ∷ 6 ∷ [])
+small_3 = refl
 
 -- a file that uses itself: 9
-small-4 : faults (alone (codes "use x")) x ≡ some (4 ∷ 5 ∷ 9 ∷ [])
-small-4 = refl
+small_4 : faults (alone (codes "use x")) x ≡ some (4 ∷ 5 ∷ 9 ∷ [])
+small_4 = refl

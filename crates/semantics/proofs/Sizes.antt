@@ -1,46 +1,46 @@
 -- How long an expression's code is: no longer than the pieces that it is written with.
-use mathlib.Core.Path.{_≡_, refl, ap, sym, _∙_}
-use mathlib.Core.List.{List, [], _∷_, _++_}
+use mathlib.Core.Path.{◌≡◌, refl, ap, sym, ◌∙◌}
+use mathlib.Core.List.{List, [], ◌∷◌, ◌++◌}
 use mathlib.Core.Option.{Option, some, none}
-use Prim.Native.Nat.{ℕ, zero, suc, _+_, _*_, _≤_}
+use Prim.Native.Nat.{ℕ, zero, suc, ◌+◌, ◌*◌, ◌≤◌}
 use native.Mathlib.Omega.{arith}
 use lib.ListN.{length, length-append}
-use Rattle·lexer.specs.Tokens.{Tok}
-use Rattle·grammar.specs.Grammar.{E, e-num, e-name, e-call, e-field, e-op, e-if, e-let, e-par, Es, no, and-then}
-use Rattle·grammar.specs.Code.{count, Op, o-num, o-name, o-call, o-arg, o-end, o-field, o-op, o-cond, o-if, o-bind, o-let, o-par, onto, ontos, code}
+use Rattle.lexer.specs.Tokens.{Tok}
+use Rattle.grammar.specs.Grammar.{E, e_num, e_name, e_call, e_field, e_op, e_if, e_let, e_par, Es, no, and_then}
+use Rattle.grammar.specs.Code.{count, Op, o_num, o_name, o_call, o_arg, o_end, o_field, o_op, o_cond, o_if, o_bind, o_let, o_par, onto, ontos, code}
 
--- how many operations: at most one for each piece of the expression. pieces-of counts the pieces that it is written with
-abbrev pub none-left : Es → ℕ
-none-left no = 1
-none-left (and-then e es) = 0
+-- how many operations: at most one for each piece of the expression. pieces_of counts the pieces that it is written with
+abbrev pub none_left : Es → ℕ
+none_left no = 1
+none_left (and_then e es) = 0
 
 abbrev mutual
-  pub pieces-of : E → ℕ
-  pieces-of (e-num t) = 1
-  pieces-of (e-name t) = 1
-  pieces-of (e-call f es n) = 2 + (none-left es + args-of es)
-  pieces-of (e-field e x) = pieces-of e + 2
-  pieces-of (e-op o a b) = pieces-of a + (1 + pieces-of b)
-  pieces-of (e-if n a b c) = 3 + (pieces-of a + (pieces-of b + pieces-of c))
-  pieces-of (e-let n x a b) = 4 + (pieces-of a + pieces-of b)
-  pieces-of (e-par n e m) = 2 + pieces-of e
+  pub pieces_of : E → ℕ
+  pieces_of (e_num t) = 1
+  pieces_of (e_name t) = 1
+  pieces_of (e_call f es n) = 2 + (none_left es + args_of es)
+  pieces_of (e_field e x) = pieces_of e + 2
+  pieces_of (e_op o a b) = pieces_of a + (1 + pieces_of b)
+  pieces_of (e_if n a b c) = 3 + (pieces_of a + (pieces_of b + pieces_of c))
+  pieces_of (e_let n x a b) = 4 + (pieces_of a + pieces_of b)
+  pieces_of (e_par n e m) = 2 + pieces_of e
 
   -- each argument with the comma or the bracket behind it
-  pub args-of : Es → ℕ
-  args-of no = 0
-  args-of (and-then e es) = pieces-of e + (1 + args-of es)
+  pub args_of : Es → ℕ
+  args_of no = 0
+  args_of (and_then e es) = pieces_of e + (1 + args_of es)
 
 mutual
-  pub few : (e : E) (os : List Op) → length (onto e os) ≤ pieces-of e + length os
-  few (e-num t) os = omega arith
-  few (e-name t) os = omega arith
-  few (e-call f es n) os = omega (arith, fews es (o-end n ∷ os))
-  few (e-field e x) os = omega (arith, few e (o-field x ∷ os))
-  few (e-op o a b) os = omega (arith, few a (onto b (o-op o ∷ os)), few b (o-op o ∷ os))
-  few (e-if n a b c) os = omega (arith, few a (o-cond ∷ onto b (onto c (o-if n ∷ os))), few b (onto c (o-if n ∷ os)), few c (o-if n ∷ os))
-  few (e-let n x a b) os = omega (arith, few a (o-bind x ∷ onto b (o-let n ∷ os)), few b (o-let n ∷ os))
-  few (e-par n e m) os = omega (arith, few e (o-par n m ∷ os))
+  pub few : (e : E) (os : List Op) → length (onto e os) ≤ pieces_of e + length os
+  few (e_num t) os = omega arith
+  few (e_name t) os = omega arith
+  few (e_call f es n) os = omega (arith, fews es (o_end n ∷ os))
+  few (e_field e x) os = omega (arith, few e (o_field x ∷ os))
+  few (e_op o a b) os = omega (arith, few a (onto b (o_op o ∷ os)), few b (o_op o ∷ os))
+  few (e_if n a b c) os = omega (arith, few a (o_cond ∷ onto b (onto c (o_if n ∷ os))), few b (onto c (o_if n ∷ os)), few c (o_if n ∷ os))
+  few (e_let n x a b) os = omega (arith, few a (o_bind x ∷ onto b (o_let n ∷ os)), few b (o_let n ∷ os))
+  few (e_par n e m) os = omega (arith, few e (o_par n m ∷ os))
 
-  pub fews : (es : Es) (os : List Op) → length (ontos es os) ≤ args-of es + length os
+  pub fews : (es : Es) (os : List Op) → length (ontos es os) ≤ args_of es + length os
   fews no os = omega arith
-  fews (and-then e es) os = omega (arith, few e (o-arg ∷ ontos es os), fews es os)
+  fews (and_then e es) os = omega (arith, few e (o_arg ∷ ontos es os), fews es os)

@@ -1,20 +1,15 @@
 -- The checker as one walk over a line's flat code: a stack of frames, the names bound, and an output that only grows.
 -- An operation may have to know one thing, its query; the same step serves a walk to which all is known, one that stops at the first
 -- thing that isn't, and one that is told answers in the order in which it asks.
-use mathlib.Core.Path.{_≡_}
-use mathlib.Core.Bool.{Bool, true, false, _&&_, _||_, not}
-use mathlib.Core.List.{List, [], _∷_, _++_}
-use mathlib.Core.Option.{Option, some, none}
-use Prim.Native.Nat.{ℕ, zero, suc, _+_}
-use lib.ListN.{length}
-use lib.Dec.{eqb, ltb, leb}
-use Rattle·base.specs.Base.{pick, opt, or-else, is-some, Word, same, among}
-use Rattle·lexer.specs.Tokens.{Tok}
-use Rattle·lexer.specs.Words.{k-num, k-bool}
-use Rattle·grammar.specs.Grammar.{Field}
-use Rattle·grammar.specs.Code.{Op, o-num, o-name, o-call, o-arg, o-end, o-field, o-op, o-cond, o-if, o-bind, o-let, o-par, o-use, o-new, o-const, o-slot, o-result, o-body, o-bad}
-use Rattle·semantics·specs.Names.{Ty, t-num, t-bool, t-of, Slot, Sig, s-unknown}
-use Rattle·semantics·specs.Check.{Fault, Typed, Link, Said, said, fault, faults-in, types-in, links-in, ty-in, typed, Local, find, link-local, wants, of-slot, name-alone, Callee, calls-it, callee, of-record, both, op-type, count-fault, in-front, wrong, quiet, of-type}
+use Rattle.std.specs.Prelude.{◌≡◌, Bool, true, false, ◌&&◌, ◌||◌, not, List, [], ◌∷◌, ◌++◌, ℕ, zero, suc, ◌+◌, length, eqb, ltb, leb}
+use Rattle.std.proofs.Math.Option.{Option, some, none}
+use Rattle.base.specs.Base.{pick, opt, or_else, is_some, Word, same, among}
+use Rattle.lexer.specs.Tokens.{Tok}
+use Rattle.lexer.specs.Words.{k_num, k_bool}
+use Rattle.grammar.specs.Grammar.{Field}
+use Rattle.grammar.specs.Code.{Op, o_num, o_name, o_call, o_arg, o_end, o_field, o_op, o_cond, o_if, o_bind, o_let, o_par, o_use, o_new, o_const, o_slot, o_result, o_body, o_bad}
+use Rattle.semantics.specs.Names.{Ty, t_num, t_bool, t_of, Slot, Sig, s_unknown}
+use Rattle.semantics.specs.Check.{Fault, Typed, Link, Said, said, fault, faults_in, types_in, links_in, ty_in, typed, Local, find, link_local, wants, of_slot, name_alone, Callee, calls_it, callee, of_record, both, op_type, count_fault, in_front, wrong, quiet, of_type}
 
 -- a frame: a value, its type and place; or a call begun, its result's type, where it begins, the slots that are left
 pub record Frame : Type 0 where
@@ -54,133 +49,133 @@ pop (v ∷ vs) = vs
 
 -- what is said of something goes behind what was said
 abbrev pub add : Output → Said → Output
-add o s = record { faults = o .faults ++ faults-in s; types = o .types ++ types-in s; links = o .links ++ links-in s }
+add o s = record { faults = o.faults ++ faults_in s; types = o.types ++ types_in s; links = o.links ++ links_in s }
 
 -- s is said of what stands from a to b: its type onto the stack, the rest behind what was said
 abbrev pub pushed : ℕ → ℕ → Said → State → State
-pushed a b s σ = state (value (ty-in s) a b ∷ σ .stack) (σ .bound) (add (σ .out) s)
+pushed a b s σ = state (value (ty_in s) a b ∷ σ.stack) σ.bound (add σ.out s)
 
 -- the same from a state's parts
 abbrev pub says : ℕ → ℕ → Said → List Frame → List Local → Output → State
-says a b s st g o = state (value (ty-in s) a b ∷ st) g (add o s)
+says a b s st g o = state (value (ty_in s) a b ∷ st) g (add o s)
 
 -- faults alone
 abbrev pub tells : List Fault → Said
 tells fs = said none fs [] []
 
 -- the type that the next argument is held against
-abbrev pub first-slot : List Slot → Option Ty
-first-slot [] = none
-first-slot (s ∷ ss) = s .ty
+abbrev pub first_slot : List Slot → Option Ty
+first_slot [] = none
+first_slot (s ∷ ss) = s.ty
 
 -- an operator's faults, its operands being these two frames
-abbrev pub op-faults-at : ℕ → Frame → Frame → List Fault
-op-faults-at o a b = pick (eqb o 3) (opt (a .ty) [] (λ u. wants u (b .from) (b .to) (b .ty))) (pick (leb 5 o) (both t-bool (a .from) (a .to) (b .from) (b .to) (a .ty) (b .ty)) (both t-num (a .from) (a .to) (b .from) (b .to) (a .ty) (b .ty)))
+abbrev pub op_faults_at : ℕ → Frame → Frame → List Fault
+op_faults_at o a b = pick (eqb o 3) (opt a.ty [] (λ u. wants u b.from b.to b.ty)) (pick (leb 5 o) (both t_bool a.from a.to b.from b.to a.ty b.ty) (both t_num a.from a.to b.from b.to a.ty b.ty))
 
 -- what is called: a name bound in the line can't be
 abbrev pub called : List Local → Tok → Sig → Callee
-called g f s = opt (find g (f .w)) (callee f s) (λ x. calls-it none (said none (fault (f .from) (f .to) 8 ∷ []) [] (link-local f x ∷ [])))
+called g f s = opt (find g f.w) (callee f s) (λ x. calls_it none (said none (fault f.from f.to 8 ∷ []) [] (link_local f x ∷ [])))
 
 -- a call of n arguments begins: a frame with the slots to come; fault 6 stands before what is wrong with the name
 abbrev pub begins : Tok → ℕ → Callee → List Frame → List Local → Output → State
-begins f n (calls-it o c) st g out = state (record { ty = ty-in c; from = f .from; to = f .to; slots = opt o [] (λ ss. ss) } ∷ st) g (add out (in-front (count-fault f n o) c))
+begins f n (calls_it o c) st g out = state (record { ty = ty_in c; from = f.from; to = f.to; slots = opt o [] (λ ss. ss) } ∷ st) g (add out (in_front (count_fault f n o) c))
 
 -- a name by itself: one bound in the line, else what s says that it means
 abbrev pub named : List Local → Tok → Sig → Said
-named g t s = opt (find g (t .w)) (name-alone t s) (λ x. said (x .ty) [] [] (link-local t x ∷ []))
+named g t s = opt (find g t.w) (name_alone t s) (λ x. said x.ty [] [] (link_local t x ∷ []))
 
 -- what has to be known: what a name means here; what a name declared in a file is; whether another file has that name; whether the
 -- file declares the name before this line
 pub data Query : Type 0 where
-  q-here : Word → Query
-  q-there : Word → Word → Query
-  q-file : Word → Query
-  q-before : Word → Query
+  q_here : Word → Query
+  q_there : Word → Word → Query
+  q_file : Word → Query
+  q_before : Word → Query
 
 -- what a query is answered by: what a name is, or yes or no
 pub data Known : Type 0 where
-  k-sig : Sig → Known
-  k-yes : Bool → Known
+  k_sig : Sig → Known
+  k_yes : Bool → Known
 
-abbrev pub the-sig : Known → Sig
-the-sig (k-sig s) = s
-the-sig (k-yes b) = s-unknown
+abbrev pub the_sig : Known → Sig
+the_sig (k_sig s) = s
+the_sig (k_yes b) = s_unknown
 
-abbrev pub is-so : Known → Bool
-is-so (k-sig s) = false
-is-so (k-yes b) = b
+abbrev pub is_so : Known → Bool
+is_so (k_sig s) = false
+is_so (k_yes b) = b
 
 -- a name asks what it means here, unless it is bound in the line
-abbrev pub asks-name : List Local → Word → Option Query
-asks-name g w = opt (find g w) (some (q-here w)) (λ x. none)
+abbrev pub asks_name : List Local → Word → Option Query
+asks_name g w = opt (find g w) (some (q_here w)) (λ x. none)
 
 -- a field asks what its record is, if there is one to ask for
-abbrev pub asks-type : Option Ty → Option Query
-asks-type none = none
-asks-type (some t-num) = none
-asks-type (some t-bool) = none
-asks-type (some (t-of f n)) = some (q-there f n)
+abbrev pub asks_type : Option Ty → Option Query
+asks_type none = none
+asks_type (some t_num) = none
+asks_type (some t_bool) = none
+asks_type (some (t_of f n)) = some (q_there f n)
 
 -- a word where a type has to be asks what it means here, unless it is num or bool
-abbrev pub asks-word : Word → Option Query
-asks-word w = pick (same w k-num) none (pick (same w k-bool) none (some (q-here w)))
+abbrev pub asks_word : Word → Option Query
+asks_word w = pick (same w k_num) none (pick (same w k_bool) none (some (q_here w)))
 
 -- at most one thing for each operation
 abbrev pub asks : Op → State → Option Query
-asks (o-num t) σ = none
-asks (o-name t) σ = asks-name (σ .bound) (t .w)
-asks (o-call f n) σ = asks-name (σ .bound) (f .w)
-asks o-arg σ = none
-asks (o-end n) σ = none
-asks (o-field x) σ = asks-type (top (σ .stack) .ty)
-asks (o-op o) σ = none
-asks o-cond σ = none
-asks (o-if n) σ = none
-asks (o-bind x) σ = none
-asks (o-let n) σ = none
-asks (o-par n m) σ = none
-asks (o-use t) σ = some (q-file (t .w))
-asks (o-new t) σ = some (q-before (t .w))
-asks (o-const t) σ = some (q-before (t .w))
-asks (o-slot x) σ = asks-word (x .ty .w)
-asks (o-result r) σ = asks-word (r .w)
-asks o-body σ = none
-asks (o-bad a b) σ = none
+asks (o_num t) σ = none
+asks (o_name t) σ = asks_name σ.bound t.w
+asks (o_call f n) σ = asks_name σ.bound f.w
+asks o_arg σ = none
+asks (o_end n) σ = none
+asks (o_field x) σ = asks_type (top σ.stack).ty
+asks (o_op o) σ = none
+asks o_cond σ = none
+asks (o_if n) σ = none
+asks (o_bind x) σ = none
+asks (o_let n) σ = none
+asks (o_par n m) σ = none
+asks (o_use t) σ = some (q_file t.w)
+asks (o_new t) σ = some (q_before t.w)
+asks (o_const t) σ = some (q_before t.w)
+asks (o_slot x) σ = asks_word x.ty.w
+asks (o_result r) σ = asks_word r.w
+asks o_body σ = none
+asks (o_bad a b) σ = none
 
 -- fault 4 at a name that was there before, or that is bound in the line already
 abbrev pub twice : Bool → Tok → List Local → Said
-twice b t g = pick (b || is-some (find g (t .w))) (wrong t 4) quiet
+twice b t g = pick (b || is_some (find g t.w)) (wrong t 4) quiet
 
 -- a name bound in the line, with its type
-abbrev pub local-of : Tok → Option Ty → Local
-local-of t o = record { name = t; ty = o }
+abbrev pub local_of : Tok → Option Ty → Local
+local_of t o = record { name = t; ty = o }
 
 -- one operation, told what it asked; z means nothing where it asked nothing
 abbrev pub step : Known → Op → State → State
-step z (o-num t) σ = says (t .from) (t .to) (typed (t .from) (t .to) (said (some t-num) [] [] [])) (σ .stack) (σ .bound) (σ .out)
-step z (o-name t) σ = says (t .from) (t .to) (typed (t .from) (t .to) (named (σ .bound) t (the-sig z))) (σ .stack) (σ .bound) (σ .out)
-step z (o-call f n) σ = begins f n (called (σ .bound) f (the-sig z)) (σ .stack) (σ .bound) (σ .out)
-step z o-arg σ = let v = top (σ .stack) in let k = top (pop (σ .stack)) in state (record { ty = k .ty; from = k .from; to = k .to; slots = pop (k .slots) } ∷ pop (pop (σ .stack))) (σ .bound) (add (σ .out) (tells (of-slot (first-slot (k .slots)) (v .from) (v .to) (v .ty))))
-step z (o-end n) σ = let k = top (σ .stack) in says (k .from) n (typed (k .from) n (said (k .ty) [] [] [])) (pop (σ .stack)) (σ .bound) (σ .out)
-step z (o-field x) σ = let v = top (σ .stack) in says (v .from) (x .to) (typed (v .from) (x .to) (of-record (λ f n. the-sig z) x (v .ty))) (pop (σ .stack)) (σ .bound) (σ .out)
-step z (o-op o) σ = let b = top (σ .stack) in let a = top (pop (σ .stack)) in says (a .from) (b .to) (typed (a .from) (b .to) (said (some (op-type o)) (op-faults-at o a b) [] [])) (pop (pop (σ .stack))) (σ .bound) (σ .out)
-step z o-cond σ = let v = top (σ .stack) in state (pop (σ .stack)) (σ .bound) (add (σ .out) (tells (wants t-bool (v .from) (v .to) (v .ty))))
-step z (o-if n) σ = let c = top (σ .stack) in let b = top (pop (σ .stack)) in says n (c .to) (typed n (c .to) (said (or-else (b .ty) (c .ty)) (opt (b .ty) [] (λ v. wants v (c .from) (c .to) (c .ty))) [] [])) (pop (pop (σ .stack))) (σ .bound) (σ .out)
-step z (o-bind x) σ = let v = top (σ .stack) in state (pop (σ .stack)) (record { name = x; ty = v .ty } ∷ σ .bound) (σ .out)
-step z (o-let n) σ = let v = top (σ .stack) in says n (v .to) (typed n (v .to) (said (v .ty) [] [] [])) (pop (σ .stack)) (pop (σ .bound)) (σ .out)
-step z (o-par n m) σ = let v = top (σ .stack) in state (value (v .ty) n m ∷ pop (σ .stack)) (σ .bound) (σ .out)
-step z (o-use t) σ = state (σ .stack) (σ .bound) (add (σ .out) (pick (is-so z) (said none [] [] (record { from = t .from; to = t .to; sort = 2; file = t .w; name = []; at = 0 } ∷ [])) (wrong t 9)))
-step z (o-new t) σ = state (σ .stack) (σ .bound) (add (σ .out) (twice (is-so z) t []))
-step z (o-const t) σ = state (σ .stack) (local-of t none ∷ σ .bound) (add (σ .out) (twice (is-so z) t (σ .bound)))
-step z (o-slot x) σ = let s = of-type (λ w. the-sig z) (x .ty) in state (σ .stack) (local-of (x .name) (ty-in s) ∷ σ .bound) (add (add (σ .out) (twice false (x .name) (σ .bound))) s)
-step z (o-result r) σ = let s = of-type (λ w. the-sig z) r in says (r .from) (r .to) s (σ .stack) (σ .bound) (σ .out)
-step z o-body σ = let v = top (σ .stack) in let k = top (pop (σ .stack)) in state (pop (pop (σ .stack))) (σ .bound) (add (σ .out) (tells (of-slot (k .ty) (v .from) (v .to) (v .ty))))
-step z (o-bad a b) σ = state (σ .stack) (σ .bound) (add (σ .out) (said none (fault a b 1 ∷ []) [] []))
+step z (o_num t) σ = says t.from t.to (typed t.from t.to (said (some t_num) [] [] [])) σ.stack σ.bound σ.out
+step z (o_name t) σ = says t.from t.to (typed t.from t.to (named σ.bound t (the_sig z))) σ.stack σ.bound σ.out
+step z (o_call f n) σ = begins f n (called σ.bound f (the_sig z)) σ.stack σ.bound σ.out
+step z o_arg σ = let v = top σ.stack in let k = top (pop σ.stack) in state (record { ty = k.ty; from = k.from; to = k.to; slots = pop k.slots } ∷ pop (pop σ.stack)) σ.bound (add σ.out (tells (of_slot (first_slot k.slots) v.from v.to v.ty)))
+step z (o_end n) σ = let k = top σ.stack in says k.from n (typed k.from n (said k.ty [] [] [])) (pop σ.stack) σ.bound σ.out
+step z (o_field x) σ = let v = top σ.stack in says v.from x.to (typed v.from x.to (of_record (λ f n. the_sig z) x v.ty)) (pop σ.stack) σ.bound σ.out
+step z (o_op o) σ = let b = top σ.stack in let a = top (pop σ.stack) in says a.from b.to (typed a.from b.to (said (some (op_type o)) (op_faults_at o a b) [] [])) (pop (pop σ.stack)) σ.bound σ.out
+step z o_cond σ = let v = top σ.stack in state (pop σ.stack) σ.bound (add σ.out (tells (wants t_bool v.from v.to v.ty)))
+step z (o_if n) σ = let c = top σ.stack in let b = top (pop σ.stack) in says n c.to (typed n c.to (said (or_else b.ty c.ty) (opt b.ty [] (λ v. wants v c.from c.to c.ty)) [] [])) (pop (pop σ.stack)) σ.bound σ.out
+step z (o_bind x) σ = let v = top σ.stack in state (pop σ.stack) (record { name = x; ty = v.ty } ∷ σ.bound) σ.out
+step z (o_let n) σ = let v = top σ.stack in says n v.to (typed n v.to (said v.ty [] [] [])) (pop σ.stack) (pop σ.bound) σ.out
+step z (o_par n m) σ = let v = top σ.stack in state (value v.ty n m ∷ pop σ.stack) σ.bound σ.out
+step z (o_use t) σ = state σ.stack σ.bound (add σ.out (pick (is_so z) (said none [] [] (record { from = t.from; to = t.to; sort = 2; file = t.w; name = []; at = 0 } ∷ [])) (wrong t 9)))
+step z (o_new t) σ = state σ.stack σ.bound (add σ.out (twice (is_so z) t []))
+step z (o_const t) σ = state σ.stack (local_of t none ∷ σ.bound) (add σ.out (twice (is_so z) t σ.bound))
+step z (o_slot x) σ = let s = of_type (λ w. the_sig z) x.ty in state σ.stack (local_of x.name (ty_in s) ∷ σ.bound) (add (add σ.out (twice false x.name σ.bound)) s)
+step z (o_result r) σ = let s = of_type (λ w. the_sig z) r in says r.from r.to s σ.stack σ.bound σ.out
+step z o_body σ = let v = top σ.stack in let k = top (pop σ.stack) in state (pop (pop σ.stack)) σ.bound (add σ.out (tells (of_slot k.ty v.from v.to v.ty)))
+step z (o_bad a b) σ = state σ.stack σ.bound (add σ.out (said none (fault a b 1 ∷ []) [] []))
 
 -- the walk, all being known
 -- what an operation is told: where it asks nothing, something that it doesn't look at
 abbrev pub told : (Query → Known) → Option Query → Known
-told f q = opt q (k-yes false) f
+told f q = opt q (k_yes false) f
 
 abbrev pub run : (Query → Known) → List Op → State → State
 run f [] σ = σ
@@ -202,24 +197,24 @@ pub data Outcome (K : Type 0) : Type 0 where
 
 -- what the operation is told, or what is lacking for it
 abbrev pub fetch : {K : Type 0} → (Query → Fetch K) → Option Query → Fetch K
-fetch l none = has (k-yes false)
+fetch l none = has (k_yes false)
 fetch l (some q) = l q
 
-abbrev pub go-on : {K : Type 0} → Fetch K → (Known → Outcome K) → Outcome K
-go-on (lacks q) f = need q
-go-on (has s) f = f s
+abbrev pub go_on : {K : Type 0} → Fetch K → (Known → Outcome K) → Outcome K
+go_on (lacks q) f = need q
+go_on (has s) f = f s
 
 -- the walk where not all is known
 abbrev pub tries : {K : Type 0} → (Query → Fetch K) → List Op → State → Outcome K
 tries l [] σ = ends σ
-tries l (o ∷ os) σ = go-on (fetch l (asks o σ)) (λ s. tries l os (step s o σ))
+tries l (o ∷ os) σ = go_on (fetch l (asks o σ)) (λ s. tries l os (step s o σ))
 
 -- what there is to know, from the definition's functions
 abbrev pub answer : Word → (Word → Sig) → (Word → Word → Sig) → (Word → Bool) → List Word → Query → Known
-answer me here there file-there before (q-here w) = k-sig (here w)
-answer me here there file-there before (q-there f n) = k-sig (there f n)
-answer me here there file-there before (q-file w) = k-yes (file-there w && not (same w me))
-answer me here there file-there before (q-before w) = k-yes (among w before)
+answer me here there file_there before (q_here w) = k_sig (here w)
+answer me here there file_there before (q_there f n) = k_sig (there f n)
+answer me here there file_there before (q_file w) = k_yes (file_there w && not (same w me))
+answer me here there file_there before (q_before w) = k_yes (among w before)
 
 -- nothing said; and the state in which a line's walk begins
 abbrev pub silent : Output
@@ -229,34 +224,34 @@ abbrev pub start : State
 start = state [] [] silent
 
 -- the key that the first of these lacks
-abbrev pub or-lacks : {K : Type 0} → Fetch K → Option K → Option K
-or-lacks (lacks k) r = some k
-or-lacks (has s) r = r
+abbrev pub or_lacks : {K : Type 0} → Fetch K → Option K → Option K
+or_lacks (lacks k) r = some k
+or_lacks (has s) r = r
 
-abbrev pub first-lacking : {K : Type 0} → (Query → Fetch K) → List Query → Option K
-first-lacking l [] = none
-first-lacking l (q ∷ qs) = or-lacks (l q) (first-lacking l qs)
+abbrev pub first_lacking : {K : Type 0} → (Query → Fetch K) → List Query → Option K
+first_lacking l [] = none
+first_lacking l (q ∷ qs) = or_lacks (l q) (first_lacking l qs)
 
 -- what is known is so
 abbrev pub Agrees : {K : Type 0} → (Query → Fetch K) → (Query → Known) → Type 0
 Agrees l f = (q : Query) (s : Known) → l q ≡ has s → s ≡ f q
 
 -- the walk told the answers in the order in which it asks
-abbrev pub next-told : List Known → Option Query → (Known → List Known → Outcome Query) → Outcome Query
-next-told as₁ none h = h (k-yes false) as₁
-next-told [] (some q) h = need q
-next-told (a ∷ as₁) (some q) h = h a as₁
+abbrev pub next_told : List Known → Option Query → (Known → List Known → Outcome Query) → Outcome Query
+next_told as₁ none h = h (k_yes false) as₁
+next_told [] (some q) h = need q
+next_told (a ∷ as₁) (some q) h = h a as₁
 
 abbrev pub walk : List Op → List Known → State → Outcome Query
 walk [] as₁ σ = ends σ
-walk (o ∷ os) as₁ σ = next-told as₁ (asks o σ) (λ z bs. walk os bs (step z o σ))
+walk (o ∷ os) as₁ σ = next_told as₁ (asks o σ) (λ z bs. walk os bs (step z o σ))
 
 -- the answers to queries, in order; and what stands at a place of a list
-abbrev pub all-told : (Query → Known) → List Query → List Known
-all-told f [] = []
-all-told f (q ∷ qs) = f q ∷ all-told f qs
+abbrev pub all_told : (Query → Known) → List Query → List Known
+all_told f [] = []
+all_told f (q ∷ qs) = f q ∷ all_told f qs
 
-abbrev pub at-place : {A : Type 0} → ℕ → List A → Option A
-at-place n [] = none
-at-place zero (x ∷ xs) = some x
-at-place (suc n) (x ∷ xs) = at-place n xs
+abbrev pub at_place : {A : Type 0} → ℕ → List A → Option A
+at_place n [] = none
+at_place zero (x ∷ xs) = some x
+at_place (suc n) (x ∷ xs) = at_place n xs

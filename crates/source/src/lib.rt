@@ -1,11 +1,7 @@
 // What answers are read from: files in their order, each a name and lines, in words of a row. Knows nothing of how they are kept.
-ghost use denote.Ref.{now};
-ghost use mathlib.Core.Path.{_≡_};
-ghost use mathlib.Core.List.{List};
-ghost use Prim.Native.Nat.{ℕ};
-ghost use lib.ListN.{length};
-ghost use Rattle·semantics.specs.Names.{Texts};
-ghost use Rattle·source·specs.Source.{NameSays, CountSays, LineSays, FindSays};
+ghost use Rattle.std.specs.Prelude.{◌≡◌, ℕ, List, length};
+ghost use Rattle.semantics.specs.Names.{Texts};
+ghost use Rattle.source.specs.Source.{NameSays, CountSays, LineSays, FindSays};
 
 // A part of a row: where it begins, and how many words it has.
 #[derive(Clone, Copy)]
@@ -22,26 +18,26 @@ pub trait Source {
 
     // How many files there are.
     fn files(&self, m: &[u32]) -> usize
-        requires { ⌜ fits (now self) (now m) ⌝ }
-        ensures { λ r. ⌜ r ≡ length (holds (now (self .entry)) (now (m .entry))) ⌝ };
+        requires { fits self.now m.now }
+        ensures { result ≡ length (holds self.now m.now) };
 
     // Where the name of a file stands.
     fn name(&self, m: &[u32], file: usize) -> Option<Extent>
-        requires { ⌜ fits (now self) (now m) ⌝ }
-        ensures { λ r. ⌜ NameSays (holds (now (self .entry)) (now (m .entry))) file (now (m .entry)) r ⌝ };
+        requires { fits self.now m.now }
+        ensures { NameSays (holds self.now m.now) file m.now result };
 
     // How many lines a file has.
     fn lines(&self, m: &[u32], file: usize) -> usize
-        requires { ⌜ fits (now self) (now m) ⌝ }
-        ensures { λ r. ⌜ CountSays (holds (now (self .entry)) (now (m .entry))) file r ⌝ };
+        requires { fits self.now m.now }
+        ensures { CountSays (holds self.now m.now) file result };
 
     // Where a line of a file stands.
     fn line(&self, m: &[u32], file: usize, i: usize) -> Option<Extent>
-        requires { ⌜ fits (now self) (now m) ⌝ }
-        ensures { λ r. ⌜ LineSays (holds (now (self .entry)) (now (m .entry))) file i (now (m .entry)) r ⌝ };
+        requires { fits self.now m.now }
+        ensures { LineSays (holds self.now m.now) file i m.now result };
 
     // Which file has that name.
     fn find(&self, m: &[u32], name: &[u32]) -> Option<usize>
-        requires { ⌜ fits (now self) (now m) ⌝ }
-        ensures { λ r. ⌜ FindSays (holds (now (self .entry)) (now (m .entry))) (now (name .entry)) r ⌝ };
+        requires { fits self.now m.now }
+        ensures { FindSays (holds self.now m.now) name.now result };
 }

@@ -1,79 +1,71 @@
--- A file looked up by its name (file-found, file-missing), and the table without the files of a name (drops-others): the loop that takes them
+-- A file looked up by its name (file_found, file_missing), and the table without the files of a name (drops_others): the loop that takes them
 -- out goes by Dropping.
-use mathlib.Core.Path.{_≡_, refl, sym, _∙_, ap, subst}
-use mathlib.Core.Bool.{Bool, true, false}
+use Rattle.std.proofs.Common.{◌≡◌, ℕ, zero, suc, ◌+◌, ◌-◌, ◌*◌, ◌<◌, ◌≤◌, Bool, true, false, eqb, List, [], ◌∷◌, ◌++◌, map, length, get_or, take, drop, set, Some, None, Option as Perhaps, sym, refl, ap, ◌∙◌, subst, append-nil, arith, length-drop, eq-eqb, ne_eqb, eqb-true}
 use mathlib.Core.Option.{some, none}
-use mathlib.Core.List.{List, [], _∷_, _++_, map, append-nil}
-use Prim.Native.Nat.{ℕ, zero, suc, _+_, _*_, _-_, _<_, _≤_}
-use native.Mathlib.Omega.{arith}
-use lib.Dec.{eqb}
-use lib.ListN.{length, getD, take, drop, set, length-drop}
-use borrow.Author.Tests.{eqb-true, eqb-false, eq-eqb, ne-eqb}
-use Rattle·std.proofs.shelf.Lists.{getD-set-same, getD-set-other, length-set, drop-set-lt, drop-set-add, take-more, take-more-set, take-all}
-use Rattle·std.specs.declared.option.Option.{Option as Perhaps}
-use Rattle·std.specs.declared.option.Option.the-variants.{Some, None}
-use Rattle·base.specs.Base.{pick, same}
-use Rattle·semantics.specs.Names.{find-file}
-use Rattle·semantics.specs.Answers.{drops-file}
-use Rattle·store·specs.Lines.{Every}
-use Rattle·store·specs.Index.{bytes, Live, Sound}
-use Rattle·std.specs.Holes.{between}
-use Rattle·store·specs.Row.{half, table, Same}
-use Rattle·store·specs.Files.{file-at, entries, texts, name-at, others, FileOk, FileOfSays, Found, Fits, IndexSays, DropSays}
-use Rattle·store·proofs.Puts.{same-decides, differs}
-use Rattle·store·proofs.Tables.{take-set-in, entry-is, entries-long, other-name, none-in, puts-there, record-in}
-use Rattle·store·proofs.Loads.{texts-long, text-at}
-use Rattle·store·proofs.Parts.{part-at, part-long, part-same, same-on}
+use borrow.Author.Tests.{eqb-false}
+use Rattle.std.proofs.lemmas.List.{get_or-set_same, get_or-set_other, length-set, drop-set-lt, drop-set-add, take_more, take_more_set, take_all}
+use Rattle.base.specs.Base.{pick, same}
+use Rattle.semantics.specs.Names.{find_file}
+use Rattle.semantics.specs.Answers.{drops_file}
+use Rattle.store.specs.Lines.{Every}
+use Rattle.store.specs.Index.{bytes, Live, Sound}
+use Rattle.std.specs.List.{between}
+use Rattle.store.specs.Row.{half, table, Same}
+use Rattle.store.specs.Files.{file_at, entries, texts, name_at, others, FileOk, FileOfSays, Found, Fits, IndexSays, DropSays}
+use Rattle.store.proofs.Puts.{same_decides, differs}
+use Rattle.store.proofs.Tables.{take_set_in, entry_is, entries_long, other_name, none_in, puts_there, record_in}
+use Rattle.store.proofs.Loads.{texts_long, text_at}
+use Rattle.store.proofs.Parts.{part_at, part_long, part_same, same_on}
 
 module _ (nb cap : ℕ) (t m : List ℕ) (q : Fits nb cap t m) (name : List ℕ) where
   -- no number stands for the name
-  unknown : ((n : ℕ) → Live nb m n → bytes nb m n ≡ name → ⊥) → (es : List ℕ) → Every (FileOk nb cap m) es → find-file (map (file-at nb m) es) name ≡ none
-  unknown no-one [] e = refl
-  unknown no-one (p ∷ ps) (x, e) = ap (λ (b : Bool). pick b (some (file-at nb m p)) (find-file (map (file-at nb m) ps) name)) (differs (bytes nb m (getD m p 0)) name (no-one (getD m p 0) (x .name))) ∙ unknown no-one ps e
+  unknown : ((n : ℕ) → Live nb m n → bytes nb m n ≡ name → ⊥) → (es : List ℕ) → Every (FileOk nb cap m) es → find_file (map (file_at nb m) es) name ≡ none
+  unknown no_one [] e = refl
+  unknown no_one (p ∷ ps) (x, e) = ap (λ (b : Bool). pick b (some (file_at nb m p)) (find_file (map (file_at nb m) ps) name)) (differs (bytes nb m (get_or m p 0)) name (no_one (get_or m p 0) x.name)) ∙ unknown no_one ps e
 
-  pub file-unknown : ((n : ℕ) → Live nb m n → bytes nb m n ≡ name → ⊥) → find-file (texts nb t m) name ≡ none
-  file-unknown no-one = unknown no-one (entries t) (q .all-ok)
+  pub file_unknown : ((n : ℕ) → Live nb m n → bytes nb m n ≡ name → ⊥) → find_file (texts nb t m) name ≡ none
+  file_unknown no_one = unknown no_one (entries t) q.all_ok
 
   -- f does
-  module _ (f : ℕ) (lf : Live nb m f) (is-name : bytes nb m f ≡ name) where
-    find-in : (es : List ℕ) (k : ℕ) → Every (FileOk nb cap m) es → k < length es → getD m (getD es k 0) 0 ≡ f → ((j : ℕ) → j < k → getD m (getD es j 0) 0 ≡ f → ⊥) → find-file (map (file-at nb m) es) name ≡ some (file-at nb m (getD es k 0))
-    find-in [] k e h i d = let z : ⊥ = omega arith in elim z [ ]
-    find-in (p ∷ ps) zero e h i d = ap (λ (b : Bool). pick b (some (file-at nb m p)) (find-file (map (file-at nb m) ps) name)) (same-decides (bytes nb m (getD m p 0)) name .1 (ap (bytes nb m) i ∙ is-name))
-    find-in (p ∷ ps) (suc k) (x, e) h i d = ap (λ (b : Bool). pick b (some (file-at nb m p)) (find-file (map (file-at nb m) ps) name)) (differs (bytes nb m (getD m p 0)) name (other-name nb cap t m q f name lf is-name p x (d 0 (omega arith)))) ∙ find-in ps k e (omega arith) i (λ j l. d (suc j) (omega arith))
+  module _ (f : ℕ) (lf : Live nb m f) (is_name : bytes nb m f ≡ name) where
+    find_in : (es : List ℕ) (k : ℕ) → Every (FileOk nb cap m) es → k < length es → get_or m (get_or es k 0) 0 ≡ f → ((j : ℕ) → j < k → get_or m (get_or es j 0) 0 ≡ f → ⊥) → find_file (map (file_at nb m) es) name ≡ some (file_at nb m (get_or es k 0))
+    find_in [] k e h i d = let z : ⊥ = omega arith in elim z [ ]
+    find_in (p ∷ ps) zero e h i d = ap (λ (b : Bool). pick b (some (file_at nb m p)) (find_file (map (file_at nb m) ps) name)) ((same_decides (bytes nb m (get_or m p 0)) name).1 (ap (bytes nb m) i ∙ is_name))
+    find_in (p ∷ ps) (suc k) (x, e) h i d = ap (λ (b : Bool). pick b (some (file_at nb m p)) (find_file (map (file_at nb m) ps) name)) (differs (bytes nb m (get_or m p 0)) name (other_name nb cap t m q f name lf is_name p x (d 0 (omega arith)))) ∙ find_in ps k e (omega arith) i (λ j l. d (suc j) (omega arith))
 
-    pub file-found : (k : ℕ) → (k < getD t 0 0) × (name-at t m k ≡ f) × ((j : ℕ) → j < k → name-at t m j ≡ f → ⊥) → Found (texts nb t m) name k
-    file-found k (h, i, d) = record { file = file-at nb m (getD t (1 + k) 0); there = omega (arith, texts-long nb cap t m q); place-is = text-at nb cap t m q k h; named = ap (bytes nb m) i ∙ is-name; first = find-in (entries t) k (q .all-ok) (omega (arith, entries-long t (q .in-table))) (ap (λ p. getD m p 0) (entry-is t k h) ∙ i) (λ j l e. d j l (ap (λ p. getD m p 0) (sym (entry-is t j (omega arith))) ∙ e)) ∙ ap (λ p. some (file-at nb m p)) (entry-is t k h); puts = λ x. puts-there nb cap t m q f name lf is-name x k (h, i, d) }
+    pub file_found : (k : ℕ) → (k < get_or t 0 0) × (name_at t m k ≡ f) × ((j : ℕ) → j < k → name_at t m j ≡ f → ⊥) → Found (texts nb t m) name k
+    file_found k (h, i, d) = record { file = file_at nb m (get_or t (1 + k) 0); there = omega (arith, texts_long nb cap t m q); place_is = text_at nb cap t m q k h; named = ap (bytes nb m) i ∙ is_name; first = find_in (entries t) k q.all_ok (omega (arith, entries_long t q.in_table)) (ap (λ p. get_or m p 0) (entry_is t k h) ∙ i) (λ j l e. d j l (ap (λ p. get_or m p 0) (sym (entry_is t j (omega arith))) ∙ e)) ∙ ap (λ p. some (file_at nb m p)) (entry_is t k h); puts = λ x. puts_there nb cap t m q f name lf is_name x k (h, i, d) }
 
-    pub file-missing : ((j : ℕ) → j < getD t 0 0 → name-at t m j ≡ f → ⊥) → find-file (texts nb t m) name ≡ none
-    file-missing d = none-in nb cap t m q f name lf is-name (entries t) (q .all-ok) (λ j l e. let h : j < getD t 0 0 = omega (arith, entries-long t (q .in-table)) in d j h (ap (λ p. getD m p 0) (sym (entry-is t j h)) ∙ e))
+    pub file_missing : ((j : ℕ) → j < get_or t 0 0 → name_at t m j ≡ f → ⊥) → find_file (texts nb t m) name ≡ none
+    file_missing d = none_in nb cap t m q f name lf is_name (entries t) q.all_ok (λ j l e. let h : j < get_or t 0 0 = omega (arith, entries_long t q.in_table) in d j h (ap (λ p. get_or m p 0) (sym (entry_is t j h)) ∙ e))
 
-    pub file-of-says : (r : Perhaps ℕ) → IndexSays t m f r → FileOfSays (texts nb t m) name r
-    file-of-says (Some k) h = file-found k h
-    file-of-says None h = file-missing h
+    pub file_of_says : (r : Perhaps ℕ) → IndexSays t m f r → FileOfSays (texts nb t m) name r
+    file_of_says (Some k) h = file_found k h
+    file_of_says None h = file_missing h
 
-    drops-in : (es : List ℕ) → Every (FileOk nb cap m) es → map (file-at nb m) (others m f es) ≡ drops-file name (map (file-at nb m) es)
-    drops-in [] e = refl
-    drops-in (p ∷ ps) (x, e) = go (eqb (getD m p 0) f) (eqb-true (getD m p 0) f) (eqb-false (getD m p 0) f) (drops-in ps e)
+    drops_in : (es : List ℕ) → Every (FileOk nb cap m) es → map (file_at nb m) (others m f es) ≡ drops_file name (map (file_at nb m) es)
+    drops_in [] e = refl
+    drops_in (p ∷ ps) (x, e) = go (eqb (get_or m p 0) f) (eqb-true (get_or m p 0) f) (eqb-false (get_or m p 0) f) (drops_in ps e)
       where
-        go : (b : Bool) → (b ≡ true → getD m p 0 ≡ f) → (b ≡ false → getD m p 0 ≡ f → ⊥) → map (file-at nb m) (others m f ps) ≡ drops-file name (map (file-at nb m) ps) → map (file-at nb m) (pick b (others m f ps) (p ∷ others m f ps)) ≡ pick (same (bytes nb m (getD m p 0)) name) (drops-file name (map (file-at nb m) ps)) (file-at nb m p ∷ drops-file name (map (file-at nb m) ps))
-        go true y n r = r ∙ ap (λ (b : Bool). pick b (drops-file name (map (file-at nb m) ps)) (file-at nb m p ∷ drops-file name (map (file-at nb m) ps))) (sym (same-decides (bytes nb m (getD m p 0)) name .1 (ap (bytes nb m) (y refl) ∙ is-name)))
-        go false y n r = ap (λ z. file-at nb m p ∷ z) r ∙ ap (λ (b : Bool). pick b (drops-file name (map (file-at nb m) ps)) (file-at nb m p ∷ drops-file name (map (file-at nb m) ps))) (sym (differs (bytes nb m (getD m p 0)) name (other-name nb cap t m q f name lf is-name p x (n refl))))
+        go : (b : Bool) → (b ≡ true → get_or m p 0 ≡ f) → (b ≡ false → get_or m p 0 ≡ f → ⊥) → map (file_at nb m) (others m f ps) ≡ drops_file name (map (file_at nb m) ps) → map (file_at nb m) (pick b (others m f ps) (p ∷ others m f ps)) ≡ pick (same (bytes nb m (get_or m p 0)) name) (drops_file name (map (file_at nb m) ps)) (file_at nb m p ∷ drops_file name (map (file_at nb m) ps))
+        go true y n r = r ∙ ap (λ (b : Bool). pick b (drops_file name (map (file_at nb m) ps)) (file_at nb m p ∷ drops_file name (map (file_at nb m) ps))) (sym ((same_decides (bytes nb m (get_or m p 0)) name).1 (ap (bytes nb m) (y refl) ∙ is_name)))
+        go false y n r = ap (λ z. file_at nb m p ∷ z) r ∙ ap (λ (b : Bool). pick b (drops_file name (map (file_at nb m) ps)) (file_at nb m p ∷ drops_file name (map (file_at nb m) ps))) (sym (differs (bytes nb m (get_or m p 0)) name (other_name nb cap t m q f name lf is_name p x (n refl))))
 
-    pub drops-others : (t′ : List ℕ) → entries t′ ≡ others m f (entries t) → texts nb t′ m ≡ drops-file name (texts nb t m)
-    drops-others t′ e = ap (map (file-at nb m)) e ∙ drops-in (entries t) (q .all-ok)
+    pub drops_others : (t' : List ℕ) → entries t' ≡ others m f (entries t) → texts nb t' m ≡ drops_file name (texts nb t m)
+    drops_others t' e = ap (map (file_at nb m)) e ∙ drops_in (entries t) q.all_ok
 
 -- one place more
-others-push : (m : List ℕ) (f : ℕ) (es : List ℕ) (p : ℕ) → others m f (es ++ (p ∷ [])) ≡ others m f es ++ pick (eqb (getD m p 0) f) [] (p ∷ [])
-others-push m f [] p = refl
-others-push m f (x ∷ xs) p = go (eqb (getD m x 0) f) (others-push m f xs p)
+others_push : (m : List ℕ) (f : ℕ) (es : List ℕ) (p : ℕ) → others m f (es ++ (p ∷ [])) ≡ others m f es ++ pick (eqb (get_or m p 0) f) [] (p ∷ [])
+others_push m f [] p = refl
+others_push m f (x ∷ xs) p = go (eqb (get_or m x 0) f) (others_push m f xs p)
   where
-    go : (b : Bool) → others m f (xs ++ (p ∷ [])) ≡ others m f xs ++ pick (eqb (getD m p 0) f) [] (p ∷ []) → pick b (others m f (xs ++ (p ∷ []))) (x ∷ others m f (xs ++ (p ∷ []))) ≡ pick b (others m f xs) (x ∷ others m f xs) ++ pick (eqb (getD m p 0) f) [] (p ∷ [])
+    go : (b : Bool) → others m f (xs ++ (p ∷ [])) ≡ others m f xs ++ pick (eqb (get_or m p 0) f) [] (p ∷ []) → pick b (others m f (xs ++ (p ∷ []))) (x ∷ others m f (xs ++ (p ∷ []))) ≡ pick b (others m f xs) (x ∷ others m f xs) ++ pick (eqb (get_or m p 0) f) [] (p ∷ [])
     go true r = r
     go false r = ap (λ z. x ∷ z) r
 
-every-others : (P : ℕ → Type 0) (m : List ℕ) (f : ℕ) (es : List ℕ) → Every P es → Every P (others m f es)
-every-others P m f [] e = tt
-every-others P m f (p ∷ ps) (x, e) = go (eqb (getD m p 0) f) (every-others P m f ps e)
+every_others : (P : ℕ → Type 0) (m : List ℕ) (f : ℕ) (es : List ℕ) → Every P es → Every P (others m f es)
+every_others P m f [] e = tt
+every_others P m f (p ∷ ps) (x, e) = go (eqb (get_or m p 0) f) (every_others P m f ps e)
   where
     go : (b : Bool) → Every P (others m f ps) → Every P (pick b (others m f ps) (p ∷ others m f ps))
     go true r = r
@@ -82,38 +74,38 @@ every-others P m f (p ∷ ps) (x, e) = go (eqb (getD m p 0) f) (every-others P m
 -- t₀ at the start, t now: of the first k places those of other files stand in front, j of them
 pub record Dropping (t₀ m : List ℕ) (f : ℕ) (t : List ℕ) (k j : ℕ) : Type 0 where
   pub behind : j ≤ k
-  pub within : k ≤ getD t₀ 0 0
+  pub within : k ≤ get_or t₀ 0 0
   pub long : length t ≡ length t₀
-  pub in-table : 1 + getD t₀ 0 0 ≤ length t₀
-  pub so-far : take j (drop 1 t) ≡ others m f (take k (entries t₀))
-  pub rest : (i : ℕ) → k ≤ i → getD t (1 + i) 0 ≡ getD t₀ (1 + i) 0
+  pub in_table : 1 + get_or t₀ 0 0 ≤ length t₀
+  pub so_far : take j (drop 1 t) ≡ others m f (take k (entries t₀))
+  pub rest : (i : ℕ) → k ≤ i → get_or t (1 + i) 0 ≡ get_or t₀ (1 + i) 0
 
-pub drop-begins : (t m : List ℕ) (f : ℕ) → 1 + getD t 0 0 ≤ length t → Dropping t m f t 0 0
-drop-begins t m f h = record { behind = omega arith; within = omega arith; long = refl; in-table = h; so-far = refl; rest = λ i l. refl }
+pub drop_begins : (t m : List ℕ) (f : ℕ) → 1 + get_or t 0 0 ≤ length t → Dropping t m f t 0 0
+drop_begins t m f h = record { behind = omega arith; within = omega arith; long = refl; in_table = h; so_far = refl; rest = λ i l. refl }
 
-module _ (t₀ m : List ℕ) (f : ℕ) (t : List ℕ) (k j : ℕ) (d : Dropping t₀ m f t k j) (k-in : k < getD t₀ 0 0) where
-  place-k : getD (entries t₀) k 0 ≡ getD t (1 + k) 0
-  place-k = entry-is t₀ k k-in ∙ sym (d .rest k (omega arith))
+module _ (t₀ m : List ℕ) (f : ℕ) (t : List ℕ) (k j : ℕ) (d : Dropping t₀ m f t k j) (k_in : k < get_or t₀ 0 0) where
+  place_k : get_or (entries t₀) k 0 ≡ get_or t (1 + k) 0
+  place_k = entry_is t₀ k k_in ∙ sym (d.rest k (omega arith))
 
-  more : others m f (take (k + 1) (entries t₀)) ≡ others m f (take k (entries t₀)) ++ pick (eqb (getD m (getD t (1 + k) 0) 0) f) [] (getD t (1 + k) 0 ∷ [])
-  more = ap (others m f) (take-more (entries t₀) k 0 (omega (arith, entries-long t₀ (d .in-table)))) ∙ others-push m f (take k (entries t₀)) (getD (entries t₀) k 0) ∙ ap (λ p. others m f (take k (entries t₀)) ++ pick (eqb (getD m p 0) f) [] (p ∷ [])) place-k
+  more : others m f (take (k + 1) (entries t₀)) ≡ others m f (take k (entries t₀)) ++ pick (eqb (get_or m (get_or t (1 + k) 0) 0) f) [] (get_or t (1 + k) 0 ∷ [])
+  more = ap (others m f) (take_more (entries t₀) k 0 (omega (arith, entries_long t₀ d.in_table))) ∙ others_push m f (take k (entries t₀)) (get_or (entries t₀) k 0) ∙ ap (λ p. others m f (take k (entries t₀)) ++ pick (eqb (get_or m p 0) f) [] (p ∷ [])) place_k
 
-  pub drop-passes : getD m (getD t (1 + k) 0) 0 ≡ f → Dropping t₀ m f t (k + 1) j
-  drop-passes e = record { behind = omega (arith, d .behind); within = omega arith; long = d .long; in-table = d .in-table; so-far = sym (more ∙ ap (λ (b : Bool). others m f (take k (entries t₀)) ++ pick b [] (getD t (1 + k) 0 ∷ [])) (eq-eqb (getD m (getD t (1 + k) 0) 0) f e) ∙ append-nil (others m f (take k (entries t₀))) ∙ sym (d .so-far)); rest = λ i l. d .rest i (omega arith) }
+  pub drop_passes : get_or m (get_or t (1 + k) 0) 0 ≡ f → Dropping t₀ m f t (k + 1) j
+  drop_passes e = record { behind = omega (arith, d.behind); within = omega arith; long = d.long; in_table = d.in_table; so_far = sym (more ∙ ap (λ (b : Bool). others m f (take k (entries t₀)) ++ pick b [] (get_or t (1 + k) 0 ∷ [])) (eq-eqb (get_or m (get_or t (1 + k) 0) 0) f e) ∙ append-nil (others m f (take k (entries t₀))) ∙ sym d.so_far); rest = λ i l. d.rest i (omega arith) }
 
-  pub drop-keeps : (getD m (getD t (1 + k) 0) 0 ≡ f → ⊥) → Dropping t₀ m f (set t (1 + j) (getD t (1 + k) 0)) (k + 1) (j + 1)
-  drop-keeps n = let b = d .behind in let l = d .long in let i = d .in-table in record { behind = omega arith; within = omega arith; long = length-set t (1 + j) (getD t (1 + k) 0) ∙ d .long; in-table = d .in-table; so-far = ap (take (j + 1)) (drop-set-add 1 t j (getD t (1 + k) 0)) ∙ take-more-set (drop 1 t) j (getD t (1 + k) 0) (omega (arith, length-drop 1 t)) ∙ ap (λ z. z ++ (getD t (1 + k) 0 ∷ [])) (d .so-far) ∙ sym (more ∙ ap (λ (b : Bool). others m f (take k (entries t₀)) ++ pick b [] (getD t (1 + k) 0 ∷ [])) (ne-eqb (getD m (getD t (1 + k) 0) 0) f n)); rest = λ i g. getD-set-other t (1 + j) (1 + i) (getD t (1 + k) 0) 0 (omega arith) ∙ d .rest i (omega arith) }
+  pub drop_keeps : (get_or m (get_or t (1 + k) 0) 0 ≡ f → ⊥) → Dropping t₀ m f (set t (1 + j) (get_or t (1 + k) 0)) (k + 1) (j + 1)
+  drop_keeps n = let b = d.behind in let l = d.long in let i = d.in_table in record { behind = omega arith; within = omega arith; long = length-set t (1 + j) (get_or t (1 + k) 0) ∙ d.long; in_table = d.in_table; so_far = ap (take (j + 1)) (drop-set-add 1 t j (get_or t (1 + k) 0)) ∙ take_more_set (drop 1 t) j (get_or t (1 + k) 0) (omega (arith, length-drop 1 t)) ∙ ap (λ z. z ++ (get_or t (1 + k) 0 ∷ [])) d.so_far ∙ sym (more ∙ ap (λ (b : Bool). others m f (take k (entries t₀)) ++ pick b [] (get_or t (1 + k) 0 ∷ [])) (ne_eqb (get_or m (get_or t (1 + k) 0) 0) f n)); rest = λ i g. get_or-set_other t (1 + j) (1 + i) (get_or t (1 + k) 0) 0 (omega arith) ∙ d.rest i (omega arith) }
 
-pub drop-ends : (nb cap : ℕ) (t₀ m : List ℕ) (f : ℕ) (t : List ℕ) (k j : ℕ) → Fits nb cap t₀ m → Dropping t₀ m f t k j → getD t₀ 0 0 ≤ k → Fits nb cap (set t 0 j) m × (entries (set t 0 j) ≡ others m f (entries t₀))
-drop-ends nb cap t₀ m f t k j q d h =
-    let b = d .behind in let w = d .within in let l = d .long in let i = d .in-table in
-    let g : getD (set t 0 j) 0 0 ≡ j = getD-set-same t 0 j 0 (omega arith) in
-    let e : entries (set t 0 j) ≡ others m f (entries t₀) = ap (λ n. take n (drop 1 (set t 0 j))) g ∙ ap (take j) (drop-set-lt 1 t 0 j (omega arith)) ∙ d .so-far ∙ ap (others m f) (take-all k (entries t₀) (omega (arith, entries-long t₀ (q .in-table)))) in
-    (record { sound = q .sound; in-table = omega (arith, length-set t 0 j, g); all-ok = subst (Every (FileOk nb cap m)) (sym e) (every-others (FileOk nb cap m) m f (entries t₀) (q .all-ok)) }, e)
+pub drop_ends : (nb cap : ℕ) (t₀ m : List ℕ) (f : ℕ) (t : List ℕ) (k j : ℕ) → Fits nb cap t₀ m → Dropping t₀ m f t k j → get_or t₀ 0 0 ≤ k → Fits nb cap (set t 0 j) m × (entries (set t 0 j) ≡ others m f (entries t₀))
+drop_ends nb cap t₀ m f t k j q d h =
+    let b = d.behind in let w = d.within in let l = d.long in let i = d.in_table in
+    let g : get_or (set t 0 j) 0 0 ≡ j = get_or-set_same t 0 j 0 (omega arith) in
+    let e : entries (set t 0 j) ≡ others m f (entries t₀) = ap (λ n. take n (drop 1 (set t 0 j))) g ∙ ap (take j) (drop-set-lt 1 t 0 j (omega arith)) ∙ d.so_far ∙ ap (others m f) (take_all k (entries t₀) (omega (arith, entries_long t₀ q.in_table))) in
+    (record { sound = q.sound; in_table = omega (arith, length-set t 0 j, g); all_ok = subst (Every (FileOk nb cap m)) (sym e) (every_others (FileOk nb cap m) m f (entries t₀) q.all_ok) }, e)
 
 -- a word written into a part
-pub part-set : (a b : ℕ) (m : List ℕ) (i x : ℕ) → between a b (set m (a + i) x) ≡ set (between a b m) i x
-part-set a b m i x = ap (take (b - a)) (drop-set-add a m i x) ∙ take-set-in (b - a) (drop a m) i x
+pub part_set : (a b : ℕ) (m : List ℕ) (i x : ℕ) → between a b (set m (a + i) x) ≡ set (between a b m) i x
+part_set a b m i x = ap (take (b - a)) (drop-set-add a m i x) ∙ take_set_in (b - a) (drop a m) i x
 
 -- the same in the row
 pub record Leaving (v t a f : ℕ) (m₀ m : List ℕ) (k j : ℕ) : Type 0 where
@@ -122,47 +114,47 @@ pub record Leaving (v t a f : ℕ) (m₀ m : List ℕ) (k j : ℕ) : Type 0 wher
   pub above : Same (t + v) (length m₀) m₀ m
   pub long : length m ≡ length m₀
   pub behind : j ≤ k
-  pub within : k ≤ getD (table v t m₀) 0 0
+  pub within : k ≤ get_or (table v t m₀) 0 0
 
 module _ (v t a f : ℕ) (m₀ : List ℕ) (q : Fits v (2 * v) (table v t m₀) (half v a m₀)) (apart : t + v ≤ a) (inside : a + 9 * v ≤ length m₀) where
-  t-long : length (table v t m₀) ≡ v
-  t-long = omega (arith, part-long t (t + v) m₀ (omega arith))
+  t_long : length (table v t m₀) ≡ v
+  t_long = omega (arith, part_long t (t + v) m₀ (omega arith))
 
-  pub many-in : 1 + getD (table v t m₀) 0 0 ≤ v
-  many-in = omega (arith, t-long, q .in-table)
+  pub many_in : 1 + get_or (table v t m₀) 0 0 ≤ v
+  many_in = omega (arith, t_long, q.in_table)
 
-  pub many-is : getD m₀ t 0 ≡ getD (table v t m₀) 0 0
-  many-is = let n = many-in in let z : t + 0 ≡ t = omega arith in sym (part-at t (t + v) m₀ 0 (omega arith) ∙ ap (λ i. getD m₀ i 0) z)
+  pub many_is : get_or m₀ t 0 ≡ get_or (table v t m₀) 0 0
+  many_is = let n = many_in in let z : t + 0 ≡ t = omega arith in sym (part_at t (t + v) m₀ 0 (omega arith) ∙ ap (λ i. get_or m₀ i 0) z)
 
-  pub leave-begins : Leaving v t a f m₀ m₀ 0 0
-  leave-begins = record { dropping = drop-begins (table v t m₀) (half v a m₀) f (q .in-table); below = λ i h k. refl; above = λ i h k. refl; long = refl; behind = omega arith; within = omega arith }
+  pub leave_begins : Leaving v t a f m₀ m₀ 0 0
+  leave_begins = record { dropping = drop_begins (table v t m₀) (half v a m₀) f q.in_table; below = λ i h k. refl; above = λ i h k. refl; long = refl; behind = omega arith; within = omega arith }
 
   module _ (m : List ℕ) (k j : ℕ) (d : Leaving v t a f m₀ m k j) where
-    module _ (h : k < getD (table v t m₀) 0 0) where
+    module _ (h : k < get_or (table v t m₀) 0 0) where
       abbrev p : ℕ
-      p = getD m (t + (1 + k)) 0
+      p = get_or m (t + (1 + k)) 0
 
-      p-is : p ≡ getD (table v t m) (1 + k) 0
-      p-is = let n = many-in in sym (part-at t (t + v) m (1 + k) (omega arith))
+      p_is : p ≡ get_or (table v t m) (1 + k) 0
+      p_is = let n = many_in in sym (part_at t (t + v) m (1 + k) (omega arith))
 
-      p-was : p ≡ getD (table v t m₀) (1 + k) 0
-      p-was = p-is ∙ d .dropping .rest k (omega arith)
+      p_was : p ≡ get_or (table v t m₀) (1 + k) 0
+      p_was = p_is ∙ d.dropping.rest k (omega arith)
 
-      pub p-in : p < 9 * v
-      p-in = omega (arith, p-was, record-in v (2 * v) (table v t m₀) (half v a m₀) q k h, part-long a (a + 9 * v) m₀ inside)
+      pub p_in : p < 9 * v
+      p_in = omega (arith, p_was, record_in v (2 * v) (table v t m₀) (half v a m₀) q k h, part_long a (a + 9 * v) m₀ inside)
 
-      name-is : getD m (a + p) 0 ≡ getD (half v a m₀) (getD (table v t m) (1 + k) 0) 0
-      name-is = let i = p-in in d .above (a + p) (omega arith) (omega arith) ∙ sym (part-at a (a + 9 * v) m₀ p (omega arith)) ∙ ap (λ x. getD (half v a m₀) x 0) p-is
+      name_is : get_or m (a + p) 0 ≡ get_or (half v a m₀) (get_or (table v t m) (1 + k) 0) 0
+      name_is = let i = p_in in d.above (a + p) (omega arith) (omega arith) ∙ sym (part_at a (a + 9 * v) m₀ p (omega arith)) ∙ ap (λ x. get_or (half v a m₀) x 0) p_is
 
-      pub leave-passes : getD m (a + p) 0 ≡ f → Leaving v t a f m₀ m (k + 1) j
-      leave-passes e = record { dropping = drop-passes (table v t m₀) (half v a m₀) f (table v t m) k j (d .dropping) h (sym name-is ∙ e); below = d .below; above = d .above; long = d .long; behind = omega (arith, d .behind); within = omega arith }
+      pub leave_passes : get_or m (a + p) 0 ≡ f → Leaving v t a f m₀ m (k + 1) j
+      leave_passes e = record { dropping = drop_passes (table v t m₀) (half v a m₀) f (table v t m) k j d.dropping h (sym name_is ∙ e); below = d.below; above = d.above; long = d.long; behind = omega (arith, d.behind); within = omega arith }
 
-      pub leave-keeps : (getD m (a + p) 0 ≡ f → ⊥) → Leaving v t a f m₀ (set m (t + (1 + j)) p) (k + 1) (j + 1)
-      leave-keeps e = let n = many-in in let b = d .behind in record { dropping = subst (λ (x : List ℕ). Dropping (table v t m₀) (half v a m₀) f x (k + 1) (j + 1)) (sym (part-set t (t + v) m (1 + j) p ∙ ap (set (table v t m) (1 + j)) p-is)) (drop-keeps (table v t m₀) (half v a m₀) f (table v t m) k j (d .dropping) h (λ g. e (name-is ∙ g))); below = λ i x y. getD-set-other m (t + (1 + j)) i p 0 (omega arith) ∙ d .below i x y; above = λ i x y. getD-set-other m (t + (1 + j)) i p 0 (omega arith) ∙ d .above i x y; long = length-set m (t + (1 + j)) p ∙ d .long; behind = omega arith; within = omega arith }
+      pub leave_keeps : (get_or m (a + p) 0 ≡ f → ⊥) → Leaving v t a f m₀ (set m (t + (1 + j)) p) (k + 1) (j + 1)
+      leave_keeps e = let n = many_in in let b = d.behind in record { dropping = subst (λ (x : List ℕ). Dropping (table v t m₀) (half v a m₀) f x (k + 1) (j + 1)) (sym (part_set t (t + v) m (1 + j) p ∙ ap (set (table v t m) (1 + j)) p_is)) (drop_keeps (table v t m₀) (half v a m₀) f (table v t m) k j d.dropping h (λ g. e (name_is ∙ g))); below = λ i x y. get_or-set_other m (t + (1 + j)) i p 0 (omega arith) ∙ d.below i x y; above = λ i x y. get_or-set_other m (t + (1 + j)) i p 0 (omega arith) ∙ d.above i x y; long = length-set m (t + (1 + j)) p ∙ d.long; behind = omega arith; within = omega arith }
 
-    pub leave-ends : getD (table v t m₀) 0 0 ≤ k → DropSays v t a f m₀ (set m t j)
-    leave-ends h =
-        let n = many-in in let z : t + 0 ≡ t = omega arith in
-        let s : table v t (set m t j) ≡ set (table v t m) 0 j = ap (λ i. table v t (set m i j)) (sym z) ∙ part-set t (t + v) m 0 j in
-        let x = drop-ends v (2 * v) (table v t m₀) (half v a m₀) f (table v t m) k j q (d .dropping) h in
-        record { fits = subst (λ (y : List ℕ). Fits v (2 * v) y (half v a m₀)) (sym s) (x .0); left = ap entries s ∙ x .1; below = λ i y w. getD-set-other m t i j 0 (omega arith) ∙ d .below i y w; above = λ i y w. getD-set-other m t i j 0 (omega arith) ∙ d .above i y w }
+    pub leave_ends : get_or (table v t m₀) 0 0 ≤ k → DropSays v t a f m₀ (set m t j)
+    leave_ends h =
+        let n = many_in in let z : t + 0 ≡ t = omega arith in
+        let s : table v t (set m t j) ≡ set (table v t m) 0 j = ap (λ i. table v t (set m i j)) (sym z) ∙ part_set t (t + v) m 0 j in
+        let x = drop_ends v (2 * v) (table v t m₀) (half v a m₀) f (table v t m) k j q d.dropping h in
+        record { fits = subst (λ (y : List ℕ). Fits v (2 * v) y (half v a m₀)) (sym s) x.0; left = ap entries s ∙ x.1; below = λ i y w. get_or-set_other m t i j 0 (omega arith) ∙ d.below i y w; above = λ i y w. get_or-set_other m t i j 0 (omega arith) ∙ d.above i y w }

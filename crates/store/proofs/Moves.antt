@@ -1,29 +1,25 @@
 -- A file moved to the other half (moved).
-use mathlib.Core.Path.{_≡_, refl, sym, _∙_, ap, subst}
-use mathlib.Core.List.{List, [], _∷_, _++_, map}
-use Prim.Native.Nat.{ℕ, zero, suc, _+_, _*_, _-_, _<_, _≤_}
-use native.Mathlib.Omega.{arith}
-use lib.ListN.{length, getD, take, drop, set}
-use Rattle·std.specs.Holes.{between}
-use Rattle·lexer.specs.Tokens.{lines}
-use Rattle·store·specs.Row.{table, half, Same}
-use Rattle·store·specs.Index.{count, end, pool, bytes-at, bytes, Sound, Live, Grown, Pooled}
-use Rattle·store·specs.Lines.{bodies, joined, Every}
-use Rattle·store·specs.Interner.{Interned, CanIntern, InternSays, Numbered, CanNumber, NumberSays}
-use Rattle·store·specs.Files.{text-of, file-at, file-is, Body, FileOk, Fits, CanAppend, AppendSays}
-use Rattle·store·specs.Copies.{CanCopy, CopySays, CanWrite, WriteSays}
-use Rattle·store·specs.Reclaim.{CanMove, MoveSays}
-use Rattle·store·proofs.Joined.{joined-lines}
-use Rattle·store·proofs.Interning.{pooled-on, grown-on}
-use Rattle·store·proofs.Records.{new-file, new-ok}
-use Rattle·store·proofs.Parts.{part-long, part-same}
+use Rattle.std.proofs.Common.{◌≡◌, ℕ, zero, suc, ◌+◌, ◌-◌, ◌*◌, ◌<◌, ◌≤◌, List, [], ◌∷◌, ◌++◌, map, length, get_or, take, drop, set, sym, refl, ap, ◌∙◌, subst, arith}
+use Rattle.std.specs.List.{between}
+use Rattle.lexer.specs.Tokens.{lines}
+use Rattle.store.specs.Row.{table, half, Same}
+use Rattle.store.specs.Index.{count, end, pool, bytes_at, bytes, Sound, Live, Grown, Pooled}
+use Rattle.store.specs.Lines.{bodies, joined, Every}
+use Rattle.store.specs.Interner.{Interned, CanIntern, InternSays, Numbered, CanNumber, NumberSays}
+use Rattle.store.specs.Files.{text_of, file_at, file_is, Body, FileOk, Fits, CanAppend, AppendSays}
+use Rattle.store.specs.Copies.{CanCopy, CopySays, CanWrite, WriteSays}
+use Rattle.store.specs.Reclaim.{CanMove, MoveSays}
+use Rattle.store.proofs.Joined.{joined_lines}
+use Rattle.store.proofs.Interning.{pooled_on, grown_on}
+use Rattle.store.proofs.Records.{new_file, new_ok}
+use Rattle.store.proofs.Parts.{part_long, part_same}
 
 -- numbers of a text's lines are a body for a file with that text
-pub text-is : (nb cap : ℕ) (m text m′ ns : List ℕ) → Numbered nb cap m text m′ ns → text-of nb m′ ns ≡ text
-text-is nb cap m text m′ ns n = ap joined (n .lines-are) ∙ joined-lines text
+pub text_is : (nb cap : ℕ) (m text m' ns : List ℕ) → Numbered nb cap m text m' ns → text_of nb m' ns ≡ text
+text_is nb cap m text m' ns n = ap joined n.lines_are ∙ joined_lines text
 
-pub body-is : (nb cap : ℕ) (m text m′ ns : List ℕ) (size : ℕ) → length text ≡ size → Numbered nb cap m text m′ ns → Body nb m′ ns size
-body-is nb cap m text m′ ns size l n = let t = text-is nb cap m text m′ ns n in record { numbers = n .live; size-is = sym (ap length t ∙ l); lines-are = ap (λ x. bodies (lines x)) t ∙ sym (n .lines-are) }
+pub body_is : (nb cap : ℕ) (m text m' ns : List ℕ) (size : ℕ) → length text ≡ size → Numbered nb cap m text m' ns → Body nb m' ns size
+body_is nb cap m text m' ns size l n = let t = text_is nb cap m text m' ns n in record { numbers = n.live; size_is = sym (ap length t ∙ l); lines_are = ap (λ x. bodies (lines x)) t ∙ sym n.lines_are }
 
 module _ (v a b p w : ℕ) (m : List ℕ) (c : CanMove v a b p w m) where
   abbrev ha : List ℕ
@@ -33,94 +29,95 @@ module _ (v a b p w : ℕ) (m : List ℕ) (c : CanMove v a b p w m) where
   hb = half v b m
 
   abbrev size : ℕ
-  size = getD ha (p + 1) 0
+  size = get_or ha (p + 1) 0
 
   abbrev name : List ℕ
-  name = bytes v ha (getD ha p 0)
+  name = bytes v ha (get_or ha p 0)
 
   abbrev text : List ℕ
-  text = text-of v ha (bytes-at ha (p + 2))
+  text = text_of v ha (bytes_at ha (p + 2))
 
-  size-is : size ≡ length text
-  size-is = c .ok .body .size-is
+  size_is : size ≡ length text
+  size_is = c.ok.body.size_is
 
   -- rows that are the same below
-  a-same : (m₁ m₂ : List ℕ) → length m₂ ≡ length m₁ → length m₁ ≡ length m → Same 0 b m₁ m₂ → half v a m₂ ≡ half v a m₁
-  a-same m₁ m₂ l k s = part-same a (a + 9 * v) m₁ m₂ l (omega (arith, c .apart, c .above, c .name-work)) (λ j x y. s j (omega arith) (omega (arith, c .apart)))
+  a_same : (m₁ m₂ : List ℕ) → length m₂ ≡ length m₁ → length m₁ ≡ length m → Same 0 b m₁ m₂ → half v a m₂ ≡ half v a m₁
+  a_same m₁ m₂ l k s = part_same a (a + 9 * v) m₁ m₂ l (omega (arith, c.apart, c.above, c.name_work)) (λ j x y. s j (omega arith) (omega (arith, c.apart)))
 
-  b-same : (m₁ m₂ : List ℕ) → length m₂ ≡ length m₁ → length m₁ ≡ length m → Same 0 w m₁ m₂ → half v b m₂ ≡ half v b m₁
-  b-same m₁ m₂ l k s = part-same b (b + 9 * v) m₁ m₂ l (omega (arith, c .above, c .name-work)) (λ j x y. s j (omega arith) (omega (arith, c .above)))
+  b_same : (m₁ m₂ : List ℕ) → length m₂ ≡ length m₁ → length m₁ ≡ length m → Same 0 w m₁ m₂ → half v b m₂ ≡ half v b m₁
+  b_same m₁ m₂ l k s = part_same b (b + 9 * v) m₁ m₂ l (omega (arith, c.above, c.name_work)) (λ j x y. s j (omega arith) (omega (arith, c.above)))
 
-  pub can-name : CanCopy v a (getD ha p 0) w m
-  can-name = record { above = omega (arith, c .apart, c .above); sound = c .sound; live = c .ok .name; room = c .name-work }
+  pub can_name : CanCopy v a (get_or ha p 0) w m
+  can_name = record { above = omega (arith, c.apart, c.above); sound = c.sound; live = c.ok.name; room = c.name_work }
 
-  module _ (m₁ : List ℕ) (r : ℕ) (l₁ : length m₁ ≡ length m) (s₁ : CopySays v a (getD ha p 0) w m m₁ r) where
+  module _ (m₁ : List ℕ) (r : ℕ) (l₁ : length m₁ ≡ length m) (s₁ : CopySays v a (get_or ha p 0) w m m₁ r) where
     b₁ : half v b m₁ ≡ hb
-    b₁ = b-same m m₁ l₁ refl (s₁ .below)
+    b₁ = b_same m m₁ l₁ refl s₁.below
 
     a₁ : half v a m₁ ≡ ha
-    a₁ = a-same m m₁ l₁ refl (λ j x y. s₁ .below j x (omega (arith, c .above)))
+    a₁ = a_same m m₁ l₁ refl (λ j x y. s₁.below j x (omega (arith, c.above)))
 
-    pub can-intern : CanIntern v b w (r - w) m₁
-    can-intern = let e = s₁ .end-is in let d = ap end b₁ in let k = ap count b₁ in record { small = omega (arith, c .small); above = c .above; key-in = omega (arith, c .name-work); sound = subst (Sound v (2 * v)) (sym b₁) (c .other); number = omega (arith, c .numbers); room = omega (arith, c .room) }
+    pub can_intern : CanIntern v b w (r - w) m₁
+    can_intern = let e = s₁.end_is in let d = ap end b₁ in let k = ap count b₁ in record { small = omega (arith, c.small); above = c.above; key_in = omega (arith, c.name_work); sound = subst (Sound v (2 * v)) (sym b₁) c.other; number = omega (arith, c.numbers); room = omega (arith, c.room) }
 
     module _ (m₂ : List ℕ) (f : ℕ) (l₂ : length m₂ ≡ length m₁) (s₂ : InternSays v b w (r - w) m₁ m₂ f) where
       a₂ : half v a m₂ ≡ ha
-      a₂ = a-same m₁ m₂ l₂ l₁ (s₂ .below) ∙ a₁
+      a₂ = a_same m₁ m₂ l₂ l₁ s₂.below ∙ a₁
 
-      key-is : between w (w + (r - w)) m₁ ≡ name
-      key-is = let e : w + (r - w) ≡ r = omega (arith, s₁ .end-is) in ap (λ j. between w j m₁) e ∙ s₁ .there
+      key_is : between w (w + (r - w)) m₁ ≡ name
+      key_is = let e : w + (r - w) ≡ r = omega (arith, s₁.end_is) in ap (λ j. between w j m₁) e ∙ s₁.there
 
       in₂ : Interned v (2 * v) hb name (half v b m₂) f
-      in₂ = subst (λ (z : List ℕ). Interned v (2 * v) z name (half v b m₂) f) b₁ (subst (λ (z : List ℕ). Interned v (2 * v) (half v b m₁) z (half v b m₂) f) key-is (s₂ .interned))
+      in₂ = subst (λ (z : List ℕ). Interned v (2 * v) z name (half v b m₂) f) b₁ (subst (λ (z : List ℕ). Interned v (2 * v) (half v b m₁) z (half v b m₂) f) key_is s₂.interned)
 
-      pub can-write : CanWrite v a p w m₂
-      can-write = let z = ap (λ h. getD h (p + 1) 0) a₂ in record { above = omega (arith, c .apart, c .above); sound = subst (Sound v (2 * v)) (sym a₂) (c .sound); ok = subst (λ (h : List ℕ). FileOk v (2 * v) h p) (sym a₂) (c .ok); room = omega (arith, c .text-work, size-is) }
+      pub can_write : CanWrite v a p w m₂
+      can_write = let z = ap (λ h. get_or h (p + 1) 0) a₂ in record { above = omega (arith, c.apart, c.above); sound = subst (Sound v (2 * v)) (sym a₂) c.sound; ok = subst (λ (h : List ℕ). FileOk v (2 * v) h p) (sym a₂) c.ok; room = omega (arith, c.text_work, size_is) }
 
       module _ (m₃ : List ℕ) (l₃ : length m₃ ≡ length m₂) (s₃ : WriteSays v a p w m₂ m₃) where
         b₃ : half v b m₃ ≡ half v b m₂
-        b₃ = b-same m₂ m₃ l₃ (l₂ ∙ l₁) (s₃ .below)
+        b₃ = b_same m₂ m₃ l₃ (l₂ ∙ l₁) s₃.below
 
         text₃ : between w (w + size) m₃ ≡ text
-        text₃ = ap (λ h. between w (w + getD h (p + 1) 0) m₃) (sym a₂) ∙ s₃ .there ∙ ap (λ h. text-of v h (bytes-at h (p + 2))) a₂
+        text₃ = ap (λ h. between w (w + get_or h (p + 1) 0) m₃) (sym a₂) ∙ s₃.there ∙ ap (λ h. text_of v h (bytes_at h (p + 2))) a₂
 
-        pub can-number : CanNumber v b w size (w + size) m₃
-        can-number = let d = ap end b₃ in let k = ap count b₃ in let z = size-is in record { small = omega (arith, c .small); above = c .above; behind = omega arith; out-in = omega (arith, c .text-work); sound = subst (Sound v (2 * v)) (sym b₃) (in₂ .sound); numbers = omega (arith, in₂ .count-most, c .numbers); room = omega (arith, in₂ .end-most, c .room) }
+        pub can_number : CanNumber v b w size (w + size) m₃
+        can_number = let d = ap end b₃ in let k = ap count b₃ in let z = size_is in record { small = omega (arith, c.small); above = c.above; behind = omega arith; out_in = omega (arith, c.text_work); sound = subst (Sound v (2 * v)) (sym b₃) in₂.sound; numbers = omega (arith, in₂.count_most, c.numbers); room = omega (arith, in₂.end_most, c.room) }
 
         module _ (m₄ : List ℕ) (k : ℕ) (l₄ : length m₄ ≡ length m₃) (s₄ : NumberSays v b w size (w + size) m₃ m₄ k) where
           abbrev ns : List ℕ
           ns = between (w + size) (w + size + k) m₄
 
           in₄ : Numbered v (2 * v) (half v b m₂) text (half v b m₄) ns
-          in₄ = subst (λ (z : List ℕ). Numbered v (2 * v) z text (half v b m₄) ns) b₃ (subst (λ (z : List ℕ). Numbered v (2 * v) (half v b m₃) z (half v b m₄) ns) text₃ (s₄ .numbered))
+          in₄ = subst (λ (z : List ℕ). Numbered v (2 * v) z text (half v b m₄) ns) b₃ (subst (λ (z : List ℕ). Numbered v (2 * v) (half v b m₃) z (half v b m₄) ns) text₃ s₄.numbered)
 
           end₄ : end (half v b m₄) ≤ end hb + length name + length text + 2
-          end₄ = omega (arith, in₄ .end-most, in₂ .end-most)
+          end₄ = omega (arith, in₄.end_most, in₂.end_most)
 
-          pub can-append : CanAppend v b (w + size) k m₄
-          can-append = let z = size-is in let e = end₄ in record { small = omega (arith, c .small); above = omega (arith, c .above); numbers-in = omega (arith, c .text-work, s₄ .few); sound = in₄ .sound; room = omega (arith, c .room, s₄ .few) }
+          pub can_append : CanAppend v b (w + size) k m₄
+          can_append = let z = size_is in let e = end₄ in record { small = omega (arith, c.small); above = omega (arith, c.above); numbers_in = omega (arith, c.text_work, s₄.few); sound = in₄.sound; room = omega (arith, c.room, s₄.few) }
 
           module _ (m₅ : List ℕ) (q : ℕ) (l₅ : length m₅ ≡ length m₄) (s₅ : AppendSays v b f size (w + size) k m₄ m₅ q) where
             body : Body v (half v b m₄) ns size
-            body = body-is v (2 * v) (half v b m₂) text (half v b m₄) ns size (sym size-is) in₄
+            body = body_is v (2 * v) (half v b m₂) text (half v b m₄) ns size (sym size_is) in₄
 
-            f-live : Live v (half v b m₄) f × (bytes v (half v b m₄) f ≡ bytes v (half v b m₂) f)
-            f-live = in₄ .grown f (in₂ .live)
+            f_live : Live v (half v b m₄) f × (bytes v (half v b m₄) f ≡ bytes v (half v b m₂) f)
+            f_live = in₄.grown f in₂.live
 
-            ns-long : length ns ≡ k
-            ns-long = let z = size-is in omega (arith, part-long (w + size) (w + size + k) m₄ (omega (arith, c .text-work, s₄ .few)))
+            ns_long : length ns ≡ k
+            ns_long = let z = size_is in omega (arith, part_long (w + size) (w + size + k) m₄ (omega (arith, c.text_work, s₄.few)))
 
-            file-is₅ : file-at v (half v b m₅) q ≡ file-at v ha p
-            file-is₅ = new-file v (2 * v) (half v b m₄) (half v b m₅) ns f size q (in₄ .sound) (s₅ .appended) (f-live .0) body ∙ ap (λ x. record { name = x; text = text-of v (half v b m₄) ns }) (f-live .1 ∙ in₂ .bytes-n) ∙ ap (λ x. record { name = name; text = x }) (text-is v (2 * v) (half v b m₂) text (half v b m₄) ns in₄)
+            file_is₅ : file_at v (half v b m₅) q ≡ file_at v ha p
+            file_is₅ = new_file v (2 * v) (half v b m₄) (half v b m₅) ns f size q in₄.sound s₅.appended f_live.0 body ∙ ap (λ x. record { name = x; text = text_of v (half v b m₄) ns }) (f_live.1 ∙ in₂.bytes_n) ∙ ap (λ x. record { name = name; text = x }) (text_is v (2 * v) (half v b m₂) text (half v b m₄) ns in₄)
 
             pub moved : MoveSays v a b p w m m₅ q
             moved = record {
-                sound = s₅ .appended .sound;
-                grown = grown-on v hb (half v b m₂) (half v b m₅) (in₂ .grown) (grown-on v (half v b m₂) (half v b m₄) (half v b m₅) (in₄ .grown) (s₅ .appended .grown));
-                pooled = pooled-on v (2 * v) hb (half v b m₂) (half v b m₅) (in₂ .pooled) (pooled-on v (2 * v) (half v b m₂) (half v b m₄) (half v b m₅) (in₄ .pooled) (s₅ .appended .pooled));
-                ok = new-ok v (2 * v) (half v b m₄) (half v b m₅) ns f size q (in₄ .sound) (s₅ .appended) (f-live .0) body;
-                same = file-is₅;
-                end-most = omega (arith, s₅ .appended .end-is, ns-long, end₄, s₄ .few, size-is);
-                count-most = omega (arith, s₅ .appended .counts, in₄ .count-most, in₂ .count-most);
-                below = λ j x y. s₅ .below j x y ∙ s₄ .below j x y ∙ s₃ .below j x (omega (arith, c .above)) ∙ s₂ .below j x y ∙ s₁ .below j x (omega (arith, c .above));
-                above = λ j x y. let z = c .name-work in s₅ .above j x (omega arith) ∙ s₄ .above j x (omega arith) ∙ s₃ .below j (omega arith) y ∙ s₂ .above j x (omega arith) ∙ s₁ .below j (omega arith) y }
+              sound = s₅.appended.sound;
+              grown = grown_on v hb (half v b m₂) (half v b m₅) in₂.grown (grown_on v (half v b m₂) (half v b m₄) (half v b m₅) in₄.grown s₅.appended.grown);
+              pooled = pooled_on v (2 * v) hb (half v b m₂) (half v b m₅) in₂.pooled (pooled_on v (2 * v) (half v b m₂) (half v b m₄) (half v b m₅) in₄.pooled s₅.appended.pooled);
+              ok = new_ok v (2 * v) (half v b m₄) (half v b m₅) ns f size q in₄.sound s₅.appended f_live.0 body;
+              same = file_is₅;
+              end_most = omega (arith, s₅.appended.end_is, ns_long, end₄, s₄.few, size_is);
+              count_most = omega (arith, s₅.appended.counts, in₄.count_most, in₂.count_most);
+              below = λ j x y. s₅.below j x y ∙ s₄.below j x y ∙ s₃.below j x (omega (arith, c.above)) ∙ s₂.below j x y ∙ s₁.below j x (omega (arith, c.above));
+              above = λ j x y. let z = c.name_work in s₅.above j x (omega arith) ∙ s₄.above j x (omega arith) ∙ s₃.below j (omega arith) y ∙ s₂.above j x (omega arith) ∙ s₁.below j (omega arith) y;
+            }

@@ -1,21 +1,17 @@
 -- A text as the bytes of its lines, and the text again: the lines with a byte 10 between them.
-use mathlib.Core.Bool.{Bool, true, false, _&&_}
-use mathlib.Core.List.{List, [], _∷_, _++_, map}
-use Prim.Native.Nat.{ℕ, _+_}
-use lib.ListN.{length}
-use lib.Dec.{eqb}
-use Rattle·base.specs.Base.{pick}
-use Rattle·lexer.specs.Tokens.{Line}
+use Rattle.std.specs.Prelude.{ℕ, ◌+◌, Bool, true, false, ◌&&◌, List, [], ◌∷◌, ◌++◌, map, length, ◌==◌}
+use Rattle.base.specs.Base.{pick}
+use Rattle.lexer.specs.Tokens.{Line}
 
 -- lines without their places
 abbrev pub bodies : List Line → List (List ℕ)
 bodies [] = []
-bodies (l ∷ ls) = l .bytes ∷ bodies ls
+bodies (l ∷ ls) = l.bytes ∷ bodies ls
 
 -- a text cut into them; acc is what the first line has so far
 abbrev pub cuts : List ℕ → List ℕ → List (List ℕ)
 cuts acc [] = acc ∷ []
-cuts acc (c ∷ cs) = pick (eqb c 10) (acc ∷ cuts [] cs) (cuts (acc ++ (c ∷ [])) cs)
+cuts acc (c ∷ cs) = pick (c == 10) (acc ∷ cuts [] cs) (cuts (acc ++ (c ∷ [])) cs)
 
 -- and with their places again
 abbrev pub placed : ℕ → List (List ℕ) → List Line
@@ -38,7 +34,7 @@ joined (l ∷ ls) = l ++ tails ls
 -- no byte 10
 abbrev pub plain : List ℕ → Bool
 plain [] = true
-plain (c ∷ cs) = pick (eqb c 10) false (plain cs)
+plain (c ∷ cs) = pick (c == 10) false (plain cs)
 
 abbrev pub plains : List (List ℕ) → Bool
 plains [] = true

@@ -1,28 +1,22 @@
 // Changes of the texts in a long row: a file that is open gets another text, or one more is opened.
-ghost use Prim.Native.Nat.{_<_};
-ghost use Rattle·semantics.specs.Names.{find-file};
-ghost use Rattle·store·specs.Changes.{ChangeSays, CloseSays, EditSays, Long, OpenSays, texts-in};
-ghost use Rattle·store·specs.Files.{Found};
-ghost use denote.Ref.{now};
-ghost use lib.ListN.{length};
-ghost use mathlib.Core.Option.{none};
-ghost use mathlib.Core.Path.{_≡_};
+ghost use Rattle.std.specs.Prelude.{◌≡◌, ◌<◌, length};
+ghost use Rattle.semantics.specs.Names.{find_file};
+ghost use Rattle.store.specs.Changes.{ChangeSays, CloseSays, EditSays, Long, OpenSays, texts_in};
+ghost use Rattle.store.specs.Files.{Found};
+ghost use Rattle.std.proofs.Math.Option.{none};
+
 use crate::copies::widen;
 use crate::files::drop_files;
 use crate::interner::intern;
-use crate::place::find_named;
-use crate::place::lay_edited;
-use crate::place::make_room;
-use crate::place::put_text;
-use crate::place::record_of;
+use crate::place::{find_named, lay_edited, make_room, put_text, record_of};
 use crate::texts::Changed;
 use crate::weights::room_with;
 
 // A file of that name has this text from now on.
 pub fn open_in(mem: &mut [u32], unit: usize, work: usize, name: &[u8], text: &[u8]) -> Changed
-    requires { ⌜ Long unit work (now mem) ⌝ }
-    ensures kept { λ _. ⌜ ChangeSays unit work (now (mem .entry)) (now (mem .exit)) ⌝ }
-    ensures says { λ r. ⌜ OpenSays (texts-in unit (now (mem .entry))) (length (now (mem .entry))) (now (name .entry)) (now (text .entry)) (texts-in unit (now (mem .exit))) r ⌝ }
+    requires { Long unit work mem.old }
+    ensures kept { ChangeSays unit work mem.old mem.new }
+    ensures says { OpenSays (texts_in unit mem.old) (length mem.old) name.now text.now (texts_in unit mem.new) result }
 {
     if name.len() >= mem.len() || text.len() >= mem.len() {
         return Changed::NoRoom;
@@ -34,19 +28,12 @@ pub fn open_in(mem: &mut [u32], unit: usize, work: usize, name: &[u8], text: &[u
 }
 
 // Another text for the k-th file, which has that name.
-fn replace(
-    mem: &mut [u32],
-    unit: usize,
-    work: usize,
-    k: usize,
-    name: &[u8],
-    text: &[u8],
-) -> Changed
-    requires row { ⌜ Long unit work (now mem) ⌝ }
-    requires found { ⌜ Found (texts-in unit (now mem)) (now name) k ⌝ }
-    requires short { ⌜ (length (now name) < length (now mem)) × (length (now text) < length (now mem)) ⌝ }
-    ensures kept { λ _. ⌜ ChangeSays unit work (now (mem .entry)) (now (mem .exit)) ⌝ }
-    ensures says { λ r. ⌜ OpenSays (texts-in unit (now (mem .entry))) (length (now (mem .entry))) (now (name .entry)) (now (text .entry)) (texts-in unit (now (mem .exit))) r ⌝ }
+fn replace(mem: &mut [u32], unit: usize, work: usize, k: usize, name: &[u8], text: &[u8]) -> Changed
+    requires row { Long unit work mem.old }
+    requires found { Found (texts_in unit mem.old) name.now k }
+    requires short { (length name.now < length mem.old) × (length text.now < length mem.old) }
+    ensures kept { ChangeSays unit work mem.old mem.new }
+    ensures says { OpenSays (texts_in unit mem.old) (length mem.old) name.now text.now (texts_in unit mem.new) result }
 {
     let files = &mem[unit..unit + unit];
     let words = &mem[2 * unit..2 * unit + 9 * unit];
@@ -63,11 +50,11 @@ fn replace(
 
 // One more file.
 fn add(mem: &mut [u32], unit: usize, work: usize, name: &[u8], text: &[u8]) -> Changed
-    requires row { ⌜ Long unit work (now mem) ⌝ }
-    requires missing { ⌜ find-file (texts-in unit (now mem)) (now name) ≡ none ⌝ }
-    requires short { ⌜ (length (now name) < length (now mem)) × (length (now text) < length (now mem)) ⌝ }
-    ensures kept { λ _. ⌜ ChangeSays unit work (now (mem .entry)) (now (mem .exit)) ⌝ }
-    ensures says { λ r. ⌜ OpenSays (texts-in unit (now (mem .entry))) (length (now (mem .entry))) (now (name .entry)) (now (text .entry)) (texts-in unit (now (mem .exit))) r ⌝ }
+    requires row { Long unit work mem.old }
+    requires missing { find_file (texts_in unit mem.old) name.now ≡ none }
+    requires short { (length name.now < length mem.old) × (length text.now < length mem.old) }
+    ensures kept { ChangeSays unit work mem.old mem.new }
+    ensures says { OpenSays (texts_in unit mem.old) (length mem.old) name.now text.now (texts_in unit mem.new) result }
 {
     let files = &mem[unit..unit + unit];
     let words = &mem[2 * unit..2 * unit + 9 * unit];
@@ -75,7 +62,13 @@ fn add(mem: &mut [u32], unit: usize, work: usize, name: &[u8], text: &[u8]) -> C
     if room_with(files, words, unit, k, name.len(), text.len()) > mem.len() {
         return Changed::NoRoom;
     }
-    make_room(mem, unit, work, name.len() + 2 * text.len() + 6, text.len() + 2);
+    make_room(
+        mem,
+        unit,
+        work,
+        name.len() + 2 * text.len() + 6,
+        text.len() + 2,
+    );
     widen(mem, work, name);
     let f = intern(mem, unit, 2 * unit, work, name.len());
     widen(mem, work, text);
@@ -93,9 +86,9 @@ pub fn edit_in(
     to: usize,
     new: &[u8],
 ) -> Changed
-    requires { ⌜ Long unit work (now mem) ⌝ }
-    ensures kept { λ _. ⌜ ChangeSays unit work (now (mem .entry)) (now (mem .exit)) ⌝ }
-    ensures says { λ r. ⌜ EditSays (texts-in unit (now (mem .entry))) (length (now (mem .entry))) (now (name .entry)) «from» to (now (new .entry)) (texts-in unit (now (mem .exit))) r ⌝ }
+    requires { Long unit work mem.old }
+    ensures kept { ChangeSays unit work mem.old mem.new }
+    ensures says { EditSays (texts_in unit mem.old) (length mem.old) name.now from to new.now (texts_in unit mem.new) result }
 {
     let Some(k) = find_named(mem, unit, work, name) else {
         return Changed::NoFile;
@@ -114,10 +107,10 @@ fn edit_at(
     to: usize,
     new: &[u8],
 ) -> Changed
-    requires row { ⌜ Long unit work (now mem) ⌝ }
-    requires found { ⌜ Found (texts-in unit (now mem)) (now name) k ⌝ }
-    ensures kept { λ _. ⌜ ChangeSays unit work (now (mem .entry)) (now (mem .exit)) ⌝ }
-    ensures says { λ r. ⌜ EditSays (texts-in unit (now (mem .entry))) (length (now (mem .entry))) (now (name .entry)) «from» to (now (new .entry)) (texts-in unit (now (mem .exit))) r ⌝ }
+    requires row { Long unit work mem.old }
+    requires found { Found (texts_in unit mem.old) name.now k }
+    ensures kept { ChangeSays unit work mem.old mem.new }
+    ensures says { EditSays (texts_in unit mem.old) (length mem.old) name.now from to new.now (texts_in unit mem.new) result }
 {
     let q = record_of(mem, unit, k);
     let old = mem[2 * unit + (q + 1)] as usize;
@@ -143,9 +136,9 @@ fn edit_at(
 
 // The files of that name leave the table; whether there was one.
 pub fn close_in(mem: &mut [u32], unit: usize, work: usize, name: &[u8]) -> bool
-    requires { ⌜ Long unit work (now mem) ⌝ }
-    ensures kept { λ _. ⌜ ChangeSays unit work (now (mem .entry)) (now (mem .exit)) ⌝ }
-    ensures says { λ r. ⌜ CloseSays (texts-in unit (now (mem .entry))) (now (name .entry)) (texts-in unit (now (mem .exit))) r ⌝ }
+    requires { Long unit work mem.old }
+    ensures kept { ChangeSays unit work mem.old mem.new }
+    ensures says { CloseSays (texts_in unit mem.old) name.now (texts_in unit mem.new) result }
 {
     let Some(k) = find_named(mem, unit, work, name) else {
         return false;

@@ -1,16 +1,15 @@
 // Bytes and texts laid out in the row above what is kept.
-ghost use Prim.Native.Nat.{_+_, _≤_};
-ghost use Rattle·store·specs.Copies.{CanCopy, CanWrite, CopySays, WidenSays, WriteSays};
-ghost use denote.Ref.{now};
-ghost use lib.ListN.{length};
+ghost use Rattle.std.specs.Prelude.{◌+◌, ◌≤◌, length};
+ghost use Rattle.store.specs.Copies.{CanCopy, CanWrite, CopySays, WidenSays, WriteSays};
+
 use crate::row::place_of;
 
 const NEWLINE: u32 = 10;
 
 // Bytes, one a word, from a place on.
 pub fn widen(mem: &mut [u32], to: usize, bytes: &[u8])
-    requires { ⌜ to + length (now bytes) ≤ length (now mem) ⌝ }
-    ensures { λ _. ⌜ WidenSays to (now (bytes .entry)) (now (mem .entry)) (now (mem .exit)) ⌝ }
+    requires { to + length bytes.now ≤ length mem.old }
+    ensures { WidenSays to bytes.now mem.old mem.new }
 {
     let mut i = 0;
     while i < bytes.len() {
@@ -21,8 +20,8 @@ pub fn widen(mem: &mut [u32], to: usize, bytes: &[u8])
 
 // The bytes that a number of the half at a place stands for, from another place on; where they end.
 pub fn copy_line(mem: &mut [u32], unit: usize, at: usize, n: u32, to: usize) -> usize
-    requires { ⌜ CanCopy unit at n to (now mem) ⌝ }
-    ensures { λ r. ⌜ CopySays unit at n to (now (mem .entry)) (now (mem .exit)) r ⌝ }
+    requires { CanCopy unit at n to mem.old }
+    ensures { CopySays unit at n to mem.old mem.new result }
 {
     let words = &mem[at..at + 9 * unit];
     let p = place_of(words, unit, n as usize);
@@ -34,8 +33,8 @@ pub fn copy_line(mem: &mut [u32], unit: usize, at: usize, n: u32, to: usize) -> 
 
 // The text of the file whose record stands at a place of the half.
 pub fn write_text(mem: &mut [u32], unit: usize, at: usize, p: usize, to: usize)
-    requires { ⌜ CanWrite unit at p to (now mem) ⌝ }
-    ensures { λ _. ⌜ WriteSays unit at p to (now (mem .entry)) (now (mem .exit)) ⌝ }
+    requires { CanWrite unit at p to mem.old }
+    ensures { WriteSays unit at p to mem.old mem.new }
 {
     let n = mem[at + (p + 2)] as usize;
     let mut end = to;

@@ -1,17 +1,14 @@
 // The table of files, and their records in the pool: the layout stands in specs/Files.
-ghost use Prim.Native.Nat.{_+_, _*_, _<_, _≤_};
-ghost use Rattle·store·specs.Files.{AppendSays, CanAppend, CanPut, DropSays, EnlistSays, FileOfSays, Fits, IndexSays, PutSays, texts};
-ghost use Rattle·store·specs.Row.{half, table};
-ghost use denote.Ref.{now};
-ghost use lib.ListN.{getD, length, set};
-ghost use mathlib.Core.Path.{_≡_};
-use crate::interner::bucket_of;
-use crate::interner::find;
+ghost use Rattle.std.specs.Prelude.{◌≡◌, ◌+◌, ◌*◌, ◌<◌, ◌≤◌, length, set, slice_index, slice_set};
+ghost use Rattle.store.specs.Files.{AppendSays, CanAppend, CanPut, DropSays, EnlistSays, FileOfSays, Fits, IndexSays, PutSays, texts};
+ghost use Rattle.store.specs.Row.{half, table};
+
+use crate::interner::{bucket_of, find};
 
 // The file of a name, if it is open: its place in the table.
 pub fn file_of(files: &[u32], words: &[u32], unit: usize, name: &[u32]) -> Option<usize>
-    requires { ⌜ Fits unit (2 * unit) (now files) (now words) ⌝ }
-    ensures { λ r. ⌜ FileOfSays (texts unit (now (files .entry)) (now (words .entry))) (now (name .entry)) r ⌝ }
+    requires { Fits unit (2 * unit) files.now words.now }
+    ensures { FileOfSays (texts unit files.now words.now) name.now result }
 {
     let Some(f) = find(words, unit, 2 * unit, bucket_of(name, unit), name) else {
         return None;
@@ -21,8 +18,8 @@ pub fn file_of(files: &[u32], words: &[u32], unit: usize, name: &[u32]) -> Optio
 
 // Which file's name has this number.
 fn file_index(files: &[u32], words: &[u32], unit: usize, f: u32) -> Option<usize>
-    requires { ⌜ Fits unit (2 * unit) (now files) (now words) ⌝ }
-    ensures { λ r. ⌜ IndexSays (now (files .entry)) (now (words .entry)) f r ⌝ }
+    requires { Fits unit (2 * unit) files.now words.now }
+    ensures { IndexSays files.now words.now f result }
 {
     let n = files[0] as usize;
     let mut k = 0;
@@ -48,8 +45,8 @@ pub fn put_file(
     ns: usize,
     n: usize,
 )
-    requires { ⌜ CanPut unit files at k name size ns n (now mem) ⌝ }
-    ensures { λ _. ⌜ PutSays unit files at k name ns n (now (mem .entry)) (now (mem .exit)) ⌝ }
+    requires { CanPut unit files at k name size ns n mem.old }
+    ensures { PutSays unit files at k name ns n mem.old mem.new }
 {
     let p = append(mem, unit, at, name, size, ns, n);
     enlist(&mut mem[files..files + unit], k, p);
@@ -65,8 +62,8 @@ pub fn append(
     ns: usize,
     n: usize,
 ) -> u32
-    requires { ⌜ CanAppend unit at ns n (now mem) ⌝ }
-    ensures { λ r. ⌜ AppendSays unit at name size ns n (now (mem .entry)) (now (mem .exit)) r ⌝ }
+    requires { CanAppend unit at ns n mem.old }
+    ensures { AppendSays unit at name size ns n mem.old mem.new result }
 {
     let words = &mem[at..at + 9 * unit];
     let from = words[1];
@@ -77,8 +74,8 @@ pub fn append(
 
 // Writes a record's first words, before numbers that were laid there, and where the pool ends now.
 fn write_record(words: &mut [u32], from: u32, name: u32, size: u32, n: u32)
-    requires { ⌜ 1 < from ⌝ ∗ ⌜ «from» + 3 + n ≤ length (now words) ⌝ ∗ ⌜ length (now words) < 4294967296 ⌝ }
-    ensures { λ _. ⌜ now (words .exit) ≡ set (set (set (set (now (words .entry)) «from» name) («from» + 1) size) («from» + 2) n) 1 («from» + 3 + n) ⌝ }
+    requires { (1 < from) × ((from + 3 + n ≤ length words.old) × (length words.old < 4294967296)) }
+    ensures { words.new ≡ slice_set (slice_set (slice_set (set words.old from name) (from + 1) size) (from + 2) n) 1 (from + 3 + n) }
 {
     let i = from as usize;
     words[i] = name;
@@ -89,8 +86,8 @@ fn write_record(words: &mut [u32], from: u32, name: u32, size: u32, n: u32)
 
 // A record's place in the k-th place of a table: that of a file, or the one behind the last.
 fn enlist(files: &mut [u32], k: usize, p: u32)
-    requires { ⌜ k ≤ getD (now files) 0 0 ⌝ ∗ ⌜ 1 + getD (now files) 0 0 ≤ length (now files) ⌝ ∗ ⌜ k + 2 ≤ length (now files) ⌝ ∗ ⌜ length (now files) < 4294967296 ⌝ }
-    ensures { λ _. ⌜ EnlistSays k p (now (files .entry)) (now (files .exit)) ⌝ }
+    requires { (k ≤ slice_index files.old 0) × ((1 + slice_index files.old 0 ≤ length files.old) × ((k + 2 ≤ length files.old) × (length files.old < 4294967296))) }
+    ensures { EnlistSays k p files.old files.new }
 {
     files[1 + k] = p;
     if files[0] as usize > k {
@@ -101,8 +98,8 @@ fn enlist(files: &mut [u32], k: usize, p: u32)
 
 // The files whose name has this number leave the table; the others keep their order.
 pub fn drop_files(mem: &mut [u32], unit: usize, files: usize, at: usize, name: u32)
-    requires { ⌜ Fits unit (2 * unit) (table unit files (now mem)) (half unit at (now mem)) ⌝ ∗ ⌜ files + unit ≤ at ⌝ ∗ ⌜ at + 9 * unit ≤ length (now mem) ⌝ ∗ ⌜ length (now mem) < 4294967296 ⌝ }
-    ensures { λ _. ⌜ DropSays unit files at name (now (mem .entry)) (now (mem .exit)) ⌝ }
+    requires { (Fits unit (2 * unit) (table unit files mem.old) (half unit at mem.old)) × ((files + unit ≤ at) × ((at + 9 * unit ≤ length mem.old) × (length mem.old < 4294967296))) }
+    ensures { DropSays unit files at name mem.old mem.new }
 {
     let n = mem[files] as usize;
     let mut k = 0;

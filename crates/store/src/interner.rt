@@ -1,20 +1,14 @@
 // Numbers for rows of bytes, the same bytes the same number: to find one by its hash, to intern.
-ghost use Prim.Native.Nat.{_+_, _*_, _%_, _<_, _≤_};
-ghost use Rattle·std.specs.Orderings.{Decides};
-ghost use Rattle·store·specs.Index.{bytes-at, hash-from, Sound};
-ghost use Rattle·store·specs.Interner.{CanIntern, FindSays, InternSays};
-ghost use denote.Ref.{now};
-ghost use lib.ListN.{getD, length};
-ghost use mathlib.Core.Path.{_≡_};
-use crate::row::enter;
-use crate::row::head_of;
-use crate::row::link_of;
-use crate::row::place_of;
+ghost use Rattle.std.specs.Prelude.{◌≡◌, ◌+◌, ◌*◌, ◌%◌, ◌<◌, ◌≤◌, length, Decides, slice_index};
+ghost use Rattle.store.specs.Index.{bytes_at, hash_from, Sound};
+ghost use Rattle.store.specs.Interner.{CanIntern, FindSays, InternSays};
+
+use crate::row::{enter, head_of, link_of, place_of};
 
 // The number of these bytes, which belong into this bucket, if they have one.
 pub fn find(words: &[u32], buckets: usize, cap: usize, bucket: usize, key: &[u32]) -> Option<u32>
-    requires { ⌜ Sound buckets cap (now words) ⌝ ∗ ⌜ bucket ≡ hash-from 0 (now key) % buckets ⌝ }
-    ensures { λ r. ⌜ FindSays buckets (now (words .entry)) (now (key .entry)) r ⌝ }
+    requires { (Sound buckets cap words.now) × (bucket ≡ hash_from 0 key.now % buckets) }
+    ensures { FindSays buckets words.now key.now result }
 {
     let mut n = head_of(words, bucket);
     'chain: loop {
@@ -31,8 +25,8 @@ pub fn find(words: &[u32], buckets: usize, cap: usize, bucket: usize, key: &[u32
 
 // The number that bytes of the row have in the half at a place, a new one if they had none.
 pub fn intern(mem: &mut [u32], unit: usize, at: usize, from: usize, len: usize) -> u32
-    requires { ⌜ CanIntern unit at «from» len (now mem) ⌝ }
-    ensures { λ r. ⌜ InternSays unit at «from» len (now (mem .entry)) (now (mem .exit)) r ⌝ }
+    requires { CanIntern unit at from len mem.old }
+    ensures { InternSays unit at from len mem.old mem.new result }
 {
     let words = &mem[at..at + 9 * unit];
     let key = &mem[from..from + len];
@@ -43,21 +37,28 @@ pub fn intern(mem: &mut [u32], unit: usize, at: usize, from: usize, len: usize) 
     let n = words[0];
     let end = words[1];
     mem.copy_within(from..from + len, at + end as usize + 1);
-    enter(&mut mem[at..at + 9 * unit], unit, bucket, n, end, len as u32);
+    enter(
+        &mut mem[at..at + 9 * unit],
+        unit,
+        bucket,
+        n,
+        end,
+        len as u32,
+    );
     n
 }
 
 // The bucket into which bytes belong.
 pub fn bucket_of(key: &[u32], buckets: usize) -> usize
-    requires { ⌜ 0 < buckets ⌝ }
-    ensures { λ r. ⌜ r ≡ hash-from 0 (now (key .entry)) % buckets ⌝ }
+    requires { 0 < buckets }
+    ensures { result ≡ hash_from 0 key.now % buckets }
 {
     hash(key) as usize % buckets
 }
 
 // A number for a row of words, the same for the same words.
 fn hash(key: &[u32]) -> u32
-    ensures { λ r. ⌜ r ≡ hash-from 0 (now (key .entry)) ⌝ }
+    ensures { result ≡ hash_from 0 key.now }
 {
     let mut h: u64 = 0;
     for c in key {
@@ -68,8 +69,8 @@ fn hash(key: &[u32]) -> u32
 
 // Whether the bytes at a place of the pool are these.
 fn same_at(words: &[u32], i: usize, key: &[u32]) -> bool
-    requires { ⌜ i + 1 + getD (now words) i 0 ≤ length (now words) ⌝ }
-    ensures { λ r. ⌜ Decides r (bytes-at (now (words .entry)) i ≡ now (key .entry)) ⌝ }
+    requires { i + 1 + slice_index words.now i ≤ length words.now }
+    ensures { Decides result (bytes_at words.now i ≡ key.now) }
 {
     let n = words[i] as usize;
     &words[i + 1..i + 1 + n] == key

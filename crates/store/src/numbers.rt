@@ -1,6 +1,6 @@
 // A text as the numbers of its lines.
-ghost use Rattle·store·specs.Interner.{CanNumber, NumberSays};
-ghost use denote.Ref.{now};
+ghost use Rattle.store.specs.Interner.{CanNumber, NumberSays};
+
 use crate::interner::intern;
 use lexer::lines::line_end;
 
@@ -13,8 +13,8 @@ pub fn number_lines(
     len: usize,
     out: usize,
 ) -> usize
-    requires { ⌜ CanNumber unit at text len out (now mem) ⌝ }
-    ensures { λ r. ⌜ NumberSays unit at text len out (now (mem .entry)) (now (mem .exit)) r ⌝ }
+    requires { CanNumber unit at text len out mem.old }
+    ensures { NumberSays unit at text len out mem.old mem.new result }
 {
     let mut from = 0;
     let mut k = 0;

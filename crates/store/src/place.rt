@@ -1,21 +1,18 @@
 // A file's place in the row: the file of a name, room for another text, and the text put there.
-ghost use Prim.Native.Nat.{_+_, _-_, _*_, _<_, _≤_};
-ghost use Rattle·store·specs.Changes.{CanLay, CanMake, CanPutText, LaySays, Long, MakeSays, NamedSays, PutTextSays, RecordSays, SpliceSays, texts-in};
-ghost use Rattle·store·specs.Files.{Fits};
-ghost use Rattle·store·specs.Row.{half, table};
-ghost use denote.Ref.{now};
-ghost use lib.ListN.{length};
-use crate::copies::widen;
-use crate::copies::write_text;
-use crate::files::file_of;
-use crate::files::put_file;
+ghost use Rattle.std.specs.Prelude.{◌+◌, ◌-◌, ◌*◌, ◌<◌, ◌≤◌, length};
+ghost use Rattle.store.specs.Changes.{CanLay, CanMake, CanPutText, LaySays, Long, MakeSays, NamedSays, PutTextSays, RecordSays, SpliceSays, texts_in};
+ghost use Rattle.store.specs.Files.{Fits};
+ghost use Rattle.store.specs.Row.{half, table};
+
+use crate::copies::{widen, write_text};
+use crate::files::{file_of, put_file};
 use crate::numbers::number_lines;
 use crate::reclaim::reclaim;
 
 // The file of a name, if it is open. The name is laid at the front of the words to work in.
 pub fn find_named(mem: &mut [u32], unit: usize, work: usize, name: &[u8]) -> Option<usize>
-    requires { ⌜ Long unit work (now mem) ⌝ }
-    ensures { λ r. ⌜ NamedSays unit work (now (name .entry)) (now (mem .entry)) (now (mem .exit)) r ⌝ }
+    requires { Long unit work mem.old }
+    ensures { NamedSays unit work name.now mem.old mem.new result }
 {
     if name.len() > mem.len() - work {
         return None;
@@ -28,8 +25,8 @@ pub fn find_named(mem: &mut [u32], unit: usize, work: usize, name: &[u8]) -> Opt
 
 // Sees to it that the half in use has room for so many words and numbers more.
 pub fn make_room(mem: &mut [u32], unit: usize, work: usize, words: usize, numbers: usize)
-    requires { ⌜ CanMake unit work words numbers (now mem) ⌝ }
-    ensures { λ _. ⌜ MakeSays unit work words numbers (now (mem .entry)) (now (mem .exit)) ⌝ }
+    requires { CanMake unit work words numbers mem.old }
+    ensures { MakeSays unit work words numbers mem.old mem.new }
 {
     let half = &mem[2 * unit..2 * unit + 9 * unit];
     if half[1] as usize + words <= 9 * unit && half[0] as usize + numbers <= 2 * unit {
@@ -40,8 +37,8 @@ pub fn make_room(mem: &mut [u32], unit: usize, work: usize, words: usize, number
 
 // A text that stands in the row is from now on that of the k-th file, or of one more, whose name has a number.
 pub fn put_text(mem: &mut [u32], unit: usize, k: usize, name: u32, text: usize, len: usize)
-    requires { ⌜ CanPutText unit k name text len (now mem) ⌝ }
-    ensures { λ _. ⌜ PutTextSays unit k name text len (now (mem .entry)) (now (mem .exit)) ⌝ }
+    requires { CanPutText unit k name text len mem.old }
+    ensures { PutTextSays unit k name text len mem.old mem.new }
 {
     let out = text + len;
     let n = number_lines(mem, unit, 2 * unit, text, len, out);
@@ -50,8 +47,8 @@ pub fn put_text(mem: &mut [u32], unit: usize, k: usize, name: u32, text: usize, 
 
 // Replaces a part of a text that stands in the row; what stands behind it is lost.
 pub fn splice(mem: &mut [u32], text: usize, len: usize, from: usize, to: usize, new: &[u8])
-    requires { ⌜ «from» ≤ to ⌝ ∗ ⌜ to ≤ len ⌝ ∗ ⌜ text + len ≤ length (now mem) ⌝ ∗ ⌜ text + «from» + length (now new) + (len - to) ≤ length (now mem) ⌝ }
-    ensures { λ _. ⌜ SpliceSays text len «from» to (now (new .entry)) (now (mem .entry)) (now (mem .exit)) ⌝ }
+    requires { (from ≤ to) × ((to ≤ len) × ((text + len ≤ length mem.old) × (text + from + length new.now + (len - to) ≤ length mem.old))) }
+    ensures { SpliceSays text len from to new.now mem.old mem.new }
 {
     mem.copy_within(text + to..text + len, text + from + new.len());
     widen(mem, text + from, new);
@@ -59,8 +56,8 @@ pub fn splice(mem: &mut [u32], text: usize, len: usize, from: usize, to: usize, 
 
 // Where the record of the k-th file stands in the half in use.
 pub fn record_of(mem: &[u32], unit: usize, k: usize) -> usize
-    requires { ⌜ Fits unit (2 * unit) (table unit unit (now mem)) (half unit (2 * unit) (now mem)) ⌝ ∗ ⌜ k < length (texts-in unit (now mem)) ⌝ ∗ ⌜ 20 * unit ≤ length (now mem) ⌝ }
-    ensures { λ r. ⌜ RecordSays unit k (now (mem .entry)) r ⌝ }
+    requires { (Fits unit (2 * unit) (table unit unit mem.now) (half unit (2 * unit) mem.now)) × ((k < length (texts_in unit mem.now)) × (20 * unit ≤ length mem.now)) }
+    ensures { RecordSays unit k mem.now result }
 {
     mem[unit + (1 + k)] as usize
 }
@@ -75,8 +72,8 @@ pub fn lay_edited(
     to: usize,
     new: &[u8],
 )
-    requires { ⌜ CanLay unit work k «from» to (now new) (now mem) ⌝ }
-    ensures { λ _. ⌜ LaySays unit work k «from» to (now (new .entry)) (now (mem .entry)) (now (mem .exit)) ⌝ }
+    requires { CanLay unit work k from to new.now mem.old }
+    ensures { LaySays unit work k from to new.now mem.old mem.new }
 {
     let p = record_of(mem, unit, k);
     let old = mem[2 * unit + (p + 1)] as usize;

@@ -1,26 +1,17 @@
 // All files moved to the other half and back: what no file has is gone then. Lines get numbers anew.
-ghost use Prim.Native.Nat.{_+_, _*_, _<_, _≤_};
-ghost use Rattle·store·specs.Reclaim.{Blank, CanMove, CanReclaim, MoveSays, Reclaimed};
-ghost use Rattle·store·specs.Row.{half};
-ghost use denote.Ref.{now};
-ghost use lib.ListN.{length};
-use crate::copies::copy_line;
-use crate::copies::write_text;
+ghost use Rattle.std.specs.Prelude.{◌+◌, ◌*◌, ◌<◌, ◌≤◌, length};
+ghost use Rattle.store.specs.Reclaim.{Blank, CanMove, CanReclaim, MoveSays, Reclaimed};
+ghost use Rattle.store.specs.Row.{half};
+
+use crate::copies::{copy_line, write_text};
 use crate::files::append;
 use crate::interner::intern;
 use crate::numbers::number_lines;
 
 // The same texts, and of the half no more in use than they need. What stands in the other half and from `work` on is lost.
-pub fn reclaim(
-    mem: &mut [u32],
-    unit: usize,
-    files: usize,
-    at: usize,
-    other: usize,
-    work: usize,
-)
-    requires { ⌜ CanReclaim unit files at other work (now mem) ⌝ }
-    ensures { λ _. ⌜ Reclaimed unit files at other work at (now (mem .entry)) (now (mem .exit)) ⌝ }
+pub fn reclaim(mem: &mut [u32], unit: usize, files: usize, at: usize, other: usize, work: usize)
+    requires { CanReclaim unit files at other work mem.old }
+    ensures { Reclaimed unit files at other work at mem.old mem.new }
 {
     clear(&mut mem[other..other + 9 * unit], unit);
     move_all(mem, unit, files, at, other, work);
@@ -29,8 +20,8 @@ pub fn reclaim(
 
 // A half in which no number is used yet.
 pub fn clear(words: &mut [u32], unit: usize)
-    requires { ⌜ 0 < unit ⌝ ∗ ⌜ 9 * unit ≤ length (now words) ⌝ ∗ ⌜ length (now words) < 4294967296 ⌝ }
-    ensures { λ _. ⌜ Blank unit (2 * unit) (now (words .exit)) ⌝ }
+    requires { (0 < unit) × ((9 * unit ≤ length words.old) × (length words.old < 4294967296)) }
+    ensures { Blank unit (2 * unit) words.new }
 {
     words[..unit + 4].fill(0);
     words[0] = 1;
@@ -38,16 +29,9 @@ pub fn clear(words: &mut [u32], unit: usize)
 }
 
 // All files, one after the other, from one half to the other, which is empty.
-fn move_all(
-    mem: &mut [u32],
-    unit: usize,
-    files: usize,
-    at: usize,
-    other: usize,
-    work: usize,
-)
-    requires { ⌜ CanReclaim unit files at other work (now mem) ⌝ ∗ ⌜ Blank unit (2 * unit) (half unit other (now mem)) ⌝ }
-    ensures { λ _. ⌜ Reclaimed unit files at other work other (now (mem .entry)) (now (mem .exit)) ⌝ }
+fn move_all(mem: &mut [u32], unit: usize, files: usize, at: usize, other: usize, work: usize)
+    requires { (CanReclaim unit files at other work mem.old) × (Blank unit (2 * unit) (half unit other mem.old)) }
+    ensures { Reclaimed unit files at other work other mem.old mem.new }
 {
     let n = mem[files] as usize;
     let mut k = 0;
@@ -60,16 +44,9 @@ fn move_all(
 }
 
 // The file whose record stands at a place of the one half, in the other half: where its record stands there.
-fn move_file(
-    mem: &mut [u32],
-    unit: usize,
-    at: usize,
-    other: usize,
-    p: usize,
-    work: usize,
-) -> u32
-    requires { ⌜ CanMove unit at other p work (now mem) ⌝ }
-    ensures { λ r. ⌜ MoveSays unit at other p work (now (mem .entry)) (now (mem .exit)) r ⌝ }
+fn move_file(mem: &mut [u32], unit: usize, at: usize, other: usize, p: usize, work: usize) -> u32
+    requires { CanMove unit at other p work mem.old }
+    ensures { MoveSays unit at other p work mem.old mem.new result }
 {
     let words = &mem[at..at + 9 * unit];
     let name = words[p];

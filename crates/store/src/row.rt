@@ -1,30 +1,27 @@
 // Words of a half, read and written: the layout stands in specs/Index.
-ghost use Prim.Native.Nat.{_+_, _*_, _<_, _≤_};
-ghost use Rattle·store·specs.Index.{entered, head, link, place};
-ghost use denote.Ref.{now};
-ghost use lib.ListN.{getD, length, set};
-ghost use mathlib.Core.Path.{_≡_};
+ghost use Rattle.std.specs.Prelude.{◌≡◌, ◌+◌, ◌*◌, ◌<◌, ◌≤◌, length, slice_set};
+ghost use Rattle.store.specs.Index.{entered, head, link, place};
 
 // The number that a bucket was given last.
 pub fn head_of(words: &[u32], b: usize) -> usize
-    requires { ⌜ 2 + b < length (now words) ⌝ }
-    ensures { λ r. ⌜ r ≡ head (now (words .entry)) b ⌝ }
+    requires { 2 + b < length words.now }
+    ensures { result ≡ head words.now b }
 {
     words[2 + b] as usize
 }
 
 // Where a number's bytes stand, 0 if it is free.
 pub fn place_of(words: &[u32], buckets: usize, n: usize) -> usize
-    requires { ⌜ 2 + buckets + 2 * n + 1 < length (now words) ⌝ }
-    ensures { λ r. ⌜ r ≡ place buckets (now (words .entry)) n ⌝ }
+    requires { 2 + buckets + 2 * n + 1 < length words.now }
+    ensures { result ≡ place buckets words.now n }
 {
     words[2 + buckets + 2 * n] as usize
 }
 
 // The next older number of its bucket.
 pub fn link_of(words: &[u32], buckets: usize, n: usize) -> usize
-    requires { ⌜ 2 + buckets + 2 * n + 1 < length (now words) ⌝ }
-    ensures { λ r. ⌜ r ≡ link buckets (now (words .entry)) n ⌝ }
+    requires { 2 + buckets + 2 * n + 1 < length words.now }
+    ensures { result ≡ link buckets words.now n }
 {
     words[2 + buckets + 2 * n + 1] as usize
 }
@@ -32,8 +29,8 @@ pub fn link_of(words: &[u32], buckets: usize, n: usize) -> usize
 // Writes the length of bytes that were laid behind the pool's end, the row of their number, the next, the head of its chain, where the pool
 // ends now, and how many numbers there are.
 pub fn enter(words: &mut [u32], buckets: usize, bucket: usize, n: u32, from: u32, size: u32)
-    requires { ⌜ bucket < buckets ⌝ ∗ ⌜ 2 + buckets + 2 * n + 1 < from ⌝ ∗ ⌜ «from» + 1 + size ≤ length (now words) ⌝ ∗ ⌜ length (now words) < 4294967296 ⌝ }
-    ensures { λ _. ⌜ now (words .exit) ≡ entered buckets bucket n «from» («from» + 1 + size) (n + 1) (set (now (words .entry)) «from» size) ⌝ }
+    requires { (bucket < buckets) × ((2 + buckets + 2 * n + 1 < from) × ((from + 1 + size ≤ length words.old) × (length words.old < 4294967296))) }
+    ensures { words.new ≡ entered buckets bucket n from (from + 1 + size) (n + 1) (slice_set words.old from size) }
 {
     let row = 2 + buckets + 2 * n as usize;
     words[from as usize] = size;

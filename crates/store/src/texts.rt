@@ -1,14 +1,9 @@
 // The texts, as a caller sees them: an empty store, a file opened or given another text, edited and closed. The row's layout stands in
 // specs/Changes.
-ghost use Prim.Native.Nat.{_<_};
-ghost use Rattle·store·specs.Changes.{CloseSays, EditSays, Kept, OpenSays, Stays, Work, kept-texts, unit};
-ghost use denote.Ref.{now};
-ghost use lib.ListN.{length};
-ghost use mathlib.Core.List.{[]};
-ghost use mathlib.Core.Path.{_≡_};
-use crate::change::close_in;
-use crate::change::edit_in;
-use crate::change::open_in;
+ghost use Rattle.std.specs.Prelude.{◌≡◌, ◌<◌, [], length};
+ghost use Rattle.store.specs.Changes.{CloseSays, EditSays, Kept, OpenSays, Stays, Work, kept_texts, unit};
+
+use crate::change::{close_in, edit_in, open_in};
 use crate::reclaim::clear;
 
 // A shorter row holds no texts.
@@ -28,10 +23,10 @@ pub enum Changed {
 
 // A store without files.
 pub fn create(mem: &mut [u32])
-    requires { ⌜ length (now mem) < 4294967296 ⌝ }
-    ensures kept { λ _. ⌜ Kept (now (mem .exit)) ⌝ }
-    ensures empty { λ _. ⌜ kept-texts (now (mem .exit)) ≡ [] ⌝ }
-    ensures stays { λ _. ⌜ Stays (unit (now (mem .entry))) (length (now (mem .entry))) (now (mem .entry)) (now (mem .exit)) ⌝ }
+    requires { length mem.old < 4294967296 }
+    ensures kept { Kept mem.new }
+    ensures empty { kept_texts mem.new ≡ [] }
+    ensures stays { Stays (unit mem.old) (length mem.old) mem.old mem.new }
 {
     let unit = mem.len() / 40;
     if unit == 0 {
@@ -46,11 +41,11 @@ pub fn create(mem: &mut [u32])
 
 // A file of that name has this text from now on.
 pub fn open(mem: &mut [u32], work: usize, name: &[u8], text: &[u8]) -> Changed
-    requires kept { ⌜ Kept (now mem) ⌝ }
-    requires work { ⌜ Work work (now mem) ⌝ }
-    ensures kept { λ _. ⌜ Kept (now (mem .exit)) ⌝ }
-    ensures says { λ r. ⌜ OpenSays (kept-texts (now (mem .entry))) (length (now (mem .entry))) (now (name .entry)) (now (text .entry)) (kept-texts (now (mem .exit))) r ⌝ }
-    ensures stays { λ _. ⌜ Stays (unit (now (mem .entry))) work (now (mem .entry)) (now (mem .exit)) ⌝ }
+    requires kept { Kept mem.old }
+    requires work { Work work mem.old }
+    ensures kept { Kept mem.new }
+    ensures says { OpenSays (kept_texts mem.old) (length mem.old) name.now text.now (kept_texts mem.new) result }
+    ensures stays { Stays (unit mem.old) work mem.old mem.new }
 {
     if mem.len() < LEAST {
         return Changed::NoRoom;
@@ -68,11 +63,11 @@ pub fn edit(
     to: usize,
     new: &[u8],
 ) -> Changed
-    requires kept { ⌜ Kept (now mem) ⌝ }
-    requires work { ⌜ Work work (now mem) ⌝ }
-    ensures kept { λ _. ⌜ Kept (now (mem .exit)) ⌝ }
-    ensures says { λ r. ⌜ EditSays (kept-texts (now (mem .entry))) (length (now (mem .entry))) (now (name .entry)) «from» to (now (new .entry)) (kept-texts (now (mem .exit))) r ⌝ }
-    ensures stays { λ _. ⌜ Stays (unit (now (mem .entry))) work (now (mem .entry)) (now (mem .exit)) ⌝ }
+    requires kept { Kept mem.old }
+    requires work { Work work mem.old }
+    ensures kept { Kept mem.new }
+    ensures says { EditSays (kept_texts mem.old) (length mem.old) name.now from to new.now (kept_texts mem.new) result }
+    ensures stays { Stays (unit mem.old) work mem.old mem.new }
 {
     if mem.len() < LEAST {
         return Changed::NoFile;
@@ -83,11 +78,11 @@ pub fn edit(
 
 // A file is no more; whether it was open.
 pub fn close(mem: &mut [u32], work: usize, name: &[u8]) -> bool
-    requires kept { ⌜ Kept (now mem) ⌝ }
-    requires work { ⌜ Work work (now mem) ⌝ }
-    ensures kept { λ _. ⌜ Kept (now (mem .exit)) ⌝ }
-    ensures says { λ r. ⌜ CloseSays (kept-texts (now (mem .entry))) (now (name .entry)) (kept-texts (now (mem .exit))) r ⌝ }
-    ensures stays { λ _. ⌜ Stays (unit (now (mem .entry))) work (now (mem .entry)) (now (mem .exit)) ⌝ }
+    requires kept { Kept mem.old }
+    requires work { Work work mem.old }
+    ensures kept { Kept mem.new }
+    ensures says { CloseSays (kept_texts mem.old) name.now (kept_texts mem.new) result }
+    ensures stays { Stays (unit mem.old) work mem.old mem.new }
 {
     if mem.len() < LEAST {
         return false;

@@ -1,11 +1,9 @@
 // How many words texts want: a walk over the table of files.
-ghost use Prim.Native.Nat.{_*_, _<_, _≤_, max};
-ghost use Rattle·semantics.specs.Answers.{weigh-texts};
-ghost use Rattle·store·specs.Files.{texts, Fits};
-ghost use Rattle·store·specs.Weights.{RoomSays, WeighSays};
-ghost use denote.Ref.{now};
-ghost use lib.ListN.{getD};
-ghost use mathlib.Core.Path.{_≡_};
+ghost use Rattle.std.specs.Prelude.{◌≡◌, ◌*◌, ◌<◌, ◌≤◌, max, slice_index};
+ghost use Rattle.semantics.specs.Answers.{weigh-texts};
+ghost use Rattle.store.specs.Files.{texts, Fits};
+ghost use Rattle.store.specs.Weights.{RoomSays, WeighSays};
+
 use crate::row::place_of;
 
 // What some of the texts weigh, and how long the longest of them is.
@@ -24,11 +22,11 @@ pub fn room_with(
     name: usize,
     size: usize,
 ) -> usize
-    requires fits { ⌜ Fits unit (2 * unit) (now files) (now words) ⌝ }
-    requires there { ⌜ k ≤ getD (now files) 0 0 ⌝ }
-    requires light { ⌜ weigh-texts (texts unit (now files) (now words)) < 4294967296 ⌝ }
-    requires short { ⌜ (name < 8589934592) × (size < 8589934592) ⌝ }
-    ensures { λ r. ⌜ RoomSays (texts unit (now (files .entry)) (now (words .entry))) k name size r ⌝ }
+    requires fits { Fits unit (2 * unit) files.now words.now }
+    requires there { k ≤ slice_index files.now 0 }
+    requires light { weigh-texts (texts unit files.now words.now) < 4294967296 }
+    requires short { (name < 8589934592) × (size < 8589934592) }
+    ensures { RoomSays (texts unit files.now words.now) k name size result }
 {
     let n = files[0] as usize;
     let before = weigh(files, words, unit, 0, k);
@@ -40,10 +38,10 @@ pub fn room_with(
 
 // The weight of the files from one place of the table up to another.
 fn weigh(files: &[u32], words: &[u32], unit: usize, from: usize, to: usize) -> Weight
-    requires fits { ⌜ Fits unit (2 * unit) (now files) (now words) ⌝ }
-    requires there { ⌜ to ≤ getD (now files) 0 0 ⌝ }
-    requires light { ⌜ weigh-texts (texts unit (now files) (now words)) < 4294967296 ⌝ }
-    ensures { λ r. ⌜ WeighSays (texts unit (now (files .entry)) (now (words .entry))) «from» to (r .total) (r .largest) ⌝ }
+    requires fits { Fits unit (2 * unit) files.now words.now }
+    requires there { to ≤ slice_index files.now 0 }
+    requires light { weigh-texts (texts unit files.now words.now) < 4294967296 }
+    ensures { WeighSays (texts unit files.now words.now) from to result.total result.largest }
 {
     let mut total = 0;
     let mut largest = 0;
@@ -61,7 +59,7 @@ fn weigh(files: &[u32], words: &[u32], unit: usize, from: usize, to: usize) -> W
 
 // The larger of two numbers.
 fn larger(a: usize, b: usize) -> usize
-    ensures { λ r. ⌜ r ≡ max a b ⌝ }
+    ensures { result ≡ max a b }
 {
     if a < b { b } else { a }
 }

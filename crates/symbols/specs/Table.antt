@@ -18,65 +18,63 @@
 --
 -- Declarations of a file stand one behind the other. All is read as it stands, 0 past the row's end: what the words say is defined for
 -- any row.
-use mathlib.Core.List.{List, [], _∷_}
-use Prim.Native.Nat.{ℕ, zero, suc, _+_, _-_, _*_}
-use lib.ListN.{length, getD, take, drop}
-use Rattle·base.specs.Base.{Word}
-use Rattle·lexer.specs.Tokens.{Tok, tok}
-use Rattle·grammar.specs.Grammar.{Field}
-use Rattle·semantics.specs.Names.{Decl}
+use Rattle.std.specs.Prelude.{ℕ, zero, suc, ◌+◌, ◌-◌, ◌*◌, List, [], ◌∷◌, length, take, drop, slice_index}
+use Rattle.base.specs.Base.{Word}
+use Rattle.lexer.specs.Tokens.{Tok, tok}
+use Rattle.grammar.specs.Grammar.{Field}
+use Rattle.semantics.specs.Names.{Decl}
 
 abbrev pub word : List ℕ → ℕ → ℕ
-word ws i = getD ws i 0
+word ws i = slice_index ws i
 
 -- so many words from a place on
-abbrev pub text-at : List ℕ → ℕ → ℕ → Word
-text-at ws from len = take len (drop from ws)
+abbrev pub text_at : List ℕ → ℕ → ℕ → Word
+text_at ws from len = take len (drop from ws)
 
 -- what stands between two places of a line that begins at l
-abbrev pub part-at : List ℕ → ℕ → ℕ → ℕ → Word
-part-at ws l a b = take (b - a) (drop (l + a) ws)
+abbrev pub part_at : List ℕ → ℕ → ℕ → ℕ → Word
+part_at ws l a b = take (b - a) (drop (l + a) ws)
 
 -- the k-th file's words: its name, the files that it uses, its declarations
-abbrev pub file-row : ℕ → ℕ → ℕ
-file-row x k = x + 1 + 6 * k
+abbrev pub file_row : ℕ → ℕ → ℕ
+file_row x k = x + 1 + 6 * k
 
-abbrev pub file-name : List ℕ → ℕ → ℕ → Word
-file-name ws x k = text-at ws (word ws (file-row x k)) (word ws (file-row x k + 1))
+abbrev pub file_name : List ℕ → ℕ → ℕ → Word
+file_name ws x k = text_at ws (word ws (file_row x k)) (word ws (file_row x k + 1))
 
-abbrev pub used-in : List ℕ → ℕ → ℕ → List ℕ
-used-in ws x k = text-at ws (word ws (file-row x k + 2)) (word ws (file-row x k + 3))
+abbrev pub used_in : List ℕ → ℕ → ℕ → List ℕ
+used_in ws x k = text_at ws (word ws (file_row x k + 2)) (word ws (file_row x k + 3))
 
-abbrev pub first-decl : List ℕ → ℕ → ℕ → ℕ
-first-decl ws x k = word ws (file-row x k + 4)
+abbrev pub first_decl : List ℕ → ℕ → ℕ → ℕ
+first_decl ws x k = word ws (file_row x k + 4)
 
-abbrev pub decl-count : List ℕ → ℕ → ℕ → ℕ
-decl-count ws x k = word ws (file-row x k + 5)
+abbrev pub decl_count : List ℕ → ℕ → ℕ → ℕ
+decl_count ws x k = word ws (file_row x k + 5)
 
 -- a declaration's name, its type's word, and its fields
-abbrev pub decl-name : List ℕ → ℕ → Word
-decl-name ws d = part-at ws (word ws (d + 2)) (word ws (d + 4)) (word ws (d + 5))
+abbrev pub decl_name : List ℕ → ℕ → Word
+decl_name ws d = part_at ws (word ws (d + 2)) (word ws (d + 4)) (word ws (d + 5))
 
-abbrev pub decl-type : List ℕ → ℕ → Word
-decl-type ws d = part-at ws (word ws (d + 2)) (word ws (d + 6)) (word ws (d + 7))
+abbrev pub decl_type : List ℕ → ℕ → Word
+decl_type ws d = part_at ws (word ws (d + 2)) (word ws (d + 6)) (word ws (d + 7))
 
-abbrev pub tok-at : List ℕ → ℕ → ℕ → Tok
-tok-at ws l i = tok (part-at ws l (word ws i) (word ws (i + 1))) (word ws i) (word ws (i + 1))
+abbrev pub tok_at : List ℕ → ℕ → ℕ → Tok
+tok_at ws l i = tok (part_at ws l (word ws i) (word ws (i + 1))) (word ws i) (word ws (i + 1))
 
-abbrev pub fields-at : List ℕ → ℕ → ℕ → ℕ → List Field
-fields-at ws l zero i = []
-fields-at ws l (suc n) i = record { name = tok-at ws l i; ty = tok-at ws l (i + 2) } ∷ fields-at ws l n (i + 4)
+abbrev pub fields_at : List ℕ → ℕ → ℕ → ℕ → List Field
+fields_at ws l zero i = []
+fields_at ws l (suc n) i = record { name = tok_at ws l i; ty = tok_at ws l (i + 2) } ∷ fields_at ws l n (i + 4)
 
-abbrev pub decl-fields : List ℕ → ℕ → List Field
-decl-fields ws d = fields-at ws (word ws (d + 2)) (word ws (d + 8)) (d + 9)
+abbrev pub decl_fields : List ℕ → ℕ → List Field
+decl_fields ws d = fields_at ws (word ws (d + 2)) (word ws (d + 8)) (d + 9)
 
-abbrev pub decl-at : List ℕ → ℕ → Decl
-decl-at ws d = record { name = decl-name ws d; start = word ws (d + 1); from = word ws (d + 4); to = word ws (d + 5); sort = word ws (d + 3); ty = decl-type ws d; fields = decl-fields ws d }
+abbrev pub decl_at : List ℕ → ℕ → Decl
+decl_at ws d = record { name = decl_name ws d; start = word ws (d + 1); from = word ws (d + 4); to = word ws (d + 5); sort = word ws (d + 3); ty = decl_type ws d; fields = decl_fields ws d }
 
 -- how many words it takes, and n of them from one on
-abbrev pub decl-long : List ℕ → ℕ → ℕ
-decl-long ws d = 9 + 4 * word ws (d + 8)
+abbrev pub decl_long : List ℕ → ℕ → ℕ
+decl_long ws d = 9 + 4 * word ws (d + 8)
 
-abbrev pub decls-from : List ℕ → ℕ → ℕ → List Decl
-decls-from ws zero d = []
-decls-from ws (suc n) d = decl-at ws d ∷ decls-from ws n (d + decl-long ws d)
+abbrev pub decls_from : List ℕ → ℕ → ℕ → List Decl
+decls_from ws zero d = []
+decls_from ws (suc n) d = decl_at ws d ∷ decls_from ws n (d + decl_long ws d)

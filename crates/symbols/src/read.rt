@@ -1,19 +1,17 @@
 // Words and parts of a row, wherever they are asked for.
-ghost use denote.Ref.{now};
-ghost use mathlib.Core.Path.{_≡_};
-ghost use Prim.Native.Nat.{_+_};
-ghost use Rattle·symbols·specs.Table.{word, «text-at», «part-at»};
+ghost use Rattle.std.specs.Prelude.{◌≡◌, ◌+◌};
+ghost use Rattle.symbols.specs.Table.{word, text_at, part_at};
 
 // The word at a place, 0 past the end.
 pub fn word_at(words: &[u32], i: usize) -> u32
-    ensures { λ r. ⌜ r ≡ word (now (words .entry)) i ⌝ }
+    ensures { result ≡ word words.now i }
 {
     if i < words.len() { words[i] } else { 0 }
 }
 
 // So many words from a place on, as far as the row goes.
 pub fn text_at<'a>(words: &'a [u32], from: usize, len: usize) -> &'a [u32]
-    ensures { λ r. ⌜ now r ≡ «text-at» (now (words .entry)) «from» len ⌝ }
+    ensures { result.now ≡ text_at words.now from len }
 {
     let from = from.min(words.len());
     let len = len.min(words.len() - from);
@@ -22,7 +20,11 @@ pub fn text_at<'a>(words: &'a [u32], from: usize, len: usize) -> &'a [u32]
 
 // What stands between two places of a line that begins at a place, as far as the row goes.
 pub fn part_at<'a>(words: &'a [u32], line: u32, from: u32, to: u32) -> &'a [u32]
-    ensures { λ r. ⌜ now r ≡ «part-at» (now (words .entry)) line «from» to ⌝ }
+    ensures { result.now ≡ part_at words.now line from to }
 {
-    text_at(words, line as usize + from as usize, to.saturating_sub(from) as usize)
+    text_at(
+        words,
+        line as usize + from as usize,
+        to.saturating_sub(from) as usize,
+    )
 }

@@ -1,252 +1,246 @@
 -- From how a line begins and what was read behind its first word to what the line is.
-use mathlib.Core.Path.{_≡_, refl, sym, ap, subst, _∙_}
-use mathlib.Core.Bool.{Bool, true, false, false≢true}
-use mathlib.Core.List.{List, [], _∷_, _++_}
-use Prim.Native.Nat.{ℕ, zero, suc, _+_, _≤_, _<_}
-use native.Mathlib.Omega.{arith}
-use lib.ListN.{length}
-use Rattle·base.specs.Base.{pick, Word, same}
-use Rattle·lexer.specs.Tokens.{Tok, left, piece, next, end-of}
-use Rattle·lexer.specs.Words.{k-use, k-kind, k-rec, k-def, is-name, is-type, t-gets, t-lp, t-rp}
-use Rattle·lexer.specs.Kinds.{token-of}
-use Rattle·lexer.specs.Seen.{SeenSays, NextAt, NoneAt, Stands, StandsIf, is-end}
-use Rattle·lexer.specs.declared.reader.Seen.{Seen}
-use Rattle·lexer.specs.declared.token.Token.{Token}
-use Rattle·lexer.specs.declared.token.Token.the-variants.{Use, Kind, Rec, Def, Let, In, If, Then, Else, Num, Bool as TypeBool, Open, Close, Comma, Gets, Dot, Sign, Number, BadNumber, Name, Other, End}
-use Rattle·lexer.proofs.Facts.{facts, is-use, is-kind, is-rec, is-def}
-use Rattle·grammar.specs.Grammar.{Item, nothing, i-use, i-kind, i-rec, i-def, i-bad, Got, it, bad, with1, eat, a-word, ended, settled, item-of, reads-use}
-use Rattle·grammar.specs.Code.{Op, item-code}
-use Rattle·grammar.proofs.Free.{an-expr}
-use Rattle·grammar.proofs.Items.{an-item, a-kind, a-rec, a-def, a-names, a-list, a-params, item-free}
-use Rattle·lexer.specs.Theorems.{Rising, Lies}
-use Rattle·lexer.proofs.Rises.{pieces-rise}
-use Rattle·std.specs.declared.result.Result.{Result}
-use Rattle·std.specs.declared.result.Result.the-variants.{Ok, Err}
-use Rattle·syntax·specs.declared.wanted.Wrong.{Wrong}
-use Rattle·syntax·specs.Reads.{coded, item-ops, use-ops, block-ops, def-ops, ItemSays}
-use Rattle·syntax·specs.Line.{Understood, ItemRead}
-use Rattle·syntax·specs.Begins.{start-of}
-use Rattle·syntax·specs.declared.start.Start.{Start}
-use Rattle·syntax·specs.declared.start.Start.the-variants.{Nothing, AUse, AKind, ARecord, ADef, NoItem}
-use Rattle·syntax·specs.declared.lists.Listed.the-variants.{Names, Fields}
-use Rattle·syntax·proofs.Coded.{item-coded}
+use Rattle.std.proofs.Common.{◌≡◌, ℕ, zero, suc, ◌+◌, ◌<◌, ◌≤◌, Bool, true, false, List, [], ◌∷◌, ◌++◌, length, Ok, Err, Result, sym, refl, ap, ◌∙◌, subst, arith}
+use mathlib.Core.Bool.{false≢true}
+use Rattle.base.specs.Base.{pick, Word, same}
+use Rattle.lexer.specs.Tokens.{Tok, left, piece, next, end_of}
+use Rattle.lexer.specs.Words.{k_use, k_kind, k_rec, k_def, is_name, is_type, t_gets, t_lp, t_rp}
+use Rattle.lexer.specs.Kinds.{token_of}
+use Rattle.lexer.specs.Seen.{SeenSays, NextAt, NoneAt, Stands, StandsIf, is_end}
+use Rattle.lexer.specs.declared.reader.Seen.{Seen}
+use Rattle.lexer.specs.declared.token.Token.{Token}
+use Rattle.lexer.specs.declared.token.Token.TheVariants.{Use, Kind, Rec, Def, Let, In, If, Then, Else, Num, Bool as TypeBool, Open, Close, Comma, Gets, Dot, Sign, Number, BadNumber, Name, Other, End}
+use Rattle.lexer.proofs.Facts.{facts, is_use, is_kind, is_rec, is_def}
+use Rattle.grammar.specs.Grammar.{Item, nothing, i_use, i_kind, i_rec, i_def, i_bad, Got, it, bad, with1, eat, a_word, ended, settled, item_of, reads_use}
+use Rattle.grammar.specs.Code.{Op, item_code}
+use Rattle.grammar.proofs.Free.{an_expr}
+use Rattle.grammar.proofs.Items.{an_item, a_kind, a_rec, a_def, a_names, a_list, a_params, item_free}
+use Rattle.lexer.specs.Theorems.{Rising, Lies}
+use Rattle.lexer.proofs.Rises.{pieces_rise}
+use Rattle.syntax.specs.declared.wanted.Wrong.{Wrong}
+use Rattle.syntax.specs.Reads.{coded, item_ops, use_ops, block_ops, def_ops, ItemSays}
+use Rattle.syntax.specs.Line.{Understood, ItemRead}
+use Rattle.syntax.specs.Begins.{start_of}
+use Rattle.syntax.specs.declared.start.Start.{Start}
+use Rattle.syntax.specs.declared.start.Start.TheVariants.{Nothing, AUse, AKind, ARecord, ADef, NoItem}
+use Rattle.syntax.specs.declared.lists.Listed.TheVariants.{Names, Fields}
+use Rattle.syntax.proofs.Coded.{item_coded}
 
-abbrev begins-use : Start → Bool
-begins-use Nothing = false
-begins-use AUse = true
-begins-use AKind = false
-begins-use ARecord = false
-begins-use ADef = false
-begins-use NoItem = false
+abbrev begins_use : Start → Bool
+begins_use Nothing = false
+begins_use AUse = true
+begins_use AKind = false
+begins_use ARecord = false
+begins_use ADef = false
+begins_use NoItem = false
 
-use-start : (t : Token) → is-use t ≡ begins-use (start-of t)
-use-start Use = refl
-use-start Kind = refl
-use-start Rec = refl
-use-start Def = refl
-use-start Let = refl
-use-start In = refl
-use-start If = refl
-use-start Then = refl
-use-start Else = refl
-use-start Num = refl
-use-start TypeBool = refl
-use-start Open = refl
-use-start Close = refl
-use-start Comma = refl
-use-start Gets = refl
-use-start Dot = refl
-use-start (Sign o) = refl
-use-start Number = refl
-use-start BadNumber = refl
-use-start Name = refl
-use-start Other = refl
-use-start End = refl
+use_start : (t : Token) → is_use t ≡ begins_use (start_of t)
+use_start Use = refl
+use_start Kind = refl
+use_start Rec = refl
+use_start Def = refl
+use_start Let = refl
+use_start In = refl
+use_start If = refl
+use_start Then = refl
+use_start Else = refl
+use_start Num = refl
+use_start TypeBool = refl
+use_start Open = refl
+use_start Close = refl
+use_start Comma = refl
+use_start Gets = refl
+use_start Dot = refl
+use_start (Sign o) = refl
+use_start Number = refl
+use_start BadNumber = refl
+use_start Name = refl
+use_start Other = refl
+use_start End = refl
 
-abbrev begins-kind : Start → Bool
-begins-kind Nothing = false
-begins-kind AUse = false
-begins-kind AKind = true
-begins-kind ARecord = false
-begins-kind ADef = false
-begins-kind NoItem = false
+abbrev begins_kind : Start → Bool
+begins_kind Nothing = false
+begins_kind AUse = false
+begins_kind AKind = true
+begins_kind ARecord = false
+begins_kind ADef = false
+begins_kind NoItem = false
 
-kind-start : (t : Token) → is-kind t ≡ begins-kind (start-of t)
-kind-start Use = refl
-kind-start Kind = refl
-kind-start Rec = refl
-kind-start Def = refl
-kind-start Let = refl
-kind-start In = refl
-kind-start If = refl
-kind-start Then = refl
-kind-start Else = refl
-kind-start Num = refl
-kind-start TypeBool = refl
-kind-start Open = refl
-kind-start Close = refl
-kind-start Comma = refl
-kind-start Gets = refl
-kind-start Dot = refl
-kind-start (Sign o) = refl
-kind-start Number = refl
-kind-start BadNumber = refl
-kind-start Name = refl
-kind-start Other = refl
-kind-start End = refl
+kind_start : (t : Token) → is_kind t ≡ begins_kind (start_of t)
+kind_start Use = refl
+kind_start Kind = refl
+kind_start Rec = refl
+kind_start Def = refl
+kind_start Let = refl
+kind_start In = refl
+kind_start If = refl
+kind_start Then = refl
+kind_start Else = refl
+kind_start Num = refl
+kind_start TypeBool = refl
+kind_start Open = refl
+kind_start Close = refl
+kind_start Comma = refl
+kind_start Gets = refl
+kind_start Dot = refl
+kind_start (Sign o) = refl
+kind_start Number = refl
+kind_start BadNumber = refl
+kind_start Name = refl
+kind_start Other = refl
+kind_start End = refl
 
-abbrev begins-rec : Start → Bool
-begins-rec Nothing = false
-begins-rec AUse = false
-begins-rec AKind = false
-begins-rec ARecord = true
-begins-rec ADef = false
-begins-rec NoItem = false
+abbrev begins_rec : Start → Bool
+begins_rec Nothing = false
+begins_rec AUse = false
+begins_rec AKind = false
+begins_rec ARecord = true
+begins_rec ADef = false
+begins_rec NoItem = false
 
-rec-start : (t : Token) → is-rec t ≡ begins-rec (start-of t)
-rec-start Use = refl
-rec-start Kind = refl
-rec-start Rec = refl
-rec-start Def = refl
-rec-start Let = refl
-rec-start In = refl
-rec-start If = refl
-rec-start Then = refl
-rec-start Else = refl
-rec-start Num = refl
-rec-start TypeBool = refl
-rec-start Open = refl
-rec-start Close = refl
-rec-start Comma = refl
-rec-start Gets = refl
-rec-start Dot = refl
-rec-start (Sign o) = refl
-rec-start Number = refl
-rec-start BadNumber = refl
-rec-start Name = refl
-rec-start Other = refl
-rec-start End = refl
+rec_start : (t : Token) → is_rec t ≡ begins_rec (start_of t)
+rec_start Use = refl
+rec_start Kind = refl
+rec_start Rec = refl
+rec_start Def = refl
+rec_start Let = refl
+rec_start In = refl
+rec_start If = refl
+rec_start Then = refl
+rec_start Else = refl
+rec_start Num = refl
+rec_start TypeBool = refl
+rec_start Open = refl
+rec_start Close = refl
+rec_start Comma = refl
+rec_start Gets = refl
+rec_start Dot = refl
+rec_start (Sign o) = refl
+rec_start Number = refl
+rec_start BadNumber = refl
+rec_start Name = refl
+rec_start Other = refl
+rec_start End = refl
 
-abbrev begins-def : Start → Bool
-begins-def Nothing = false
-begins-def AUse = false
-begins-def AKind = false
-begins-def ARecord = false
-begins-def ADef = true
-begins-def NoItem = false
+abbrev begins_def : Start → Bool
+begins_def Nothing = false
+begins_def AUse = false
+begins_def AKind = false
+begins_def ARecord = false
+begins_def ADef = true
+begins_def NoItem = false
 
-def-start : (t : Token) → is-def t ≡ begins-def (start-of t)
-def-start Use = refl
-def-start Kind = refl
-def-start Rec = refl
-def-start Def = refl
-def-start Let = refl
-def-start In = refl
-def-start If = refl
-def-start Then = refl
-def-start Else = refl
-def-start Num = refl
-def-start TypeBool = refl
-def-start Open = refl
-def-start Close = refl
-def-start Comma = refl
-def-start Gets = refl
-def-start Dot = refl
-def-start (Sign o) = refl
-def-start Number = refl
-def-start BadNumber = refl
-def-start Name = refl
-def-start Other = refl
-def-start End = refl
+def_start : (t : Token) → is_def t ≡ begins_def (start_of t)
+def_start Use = refl
+def_start Kind = refl
+def_start Rec = refl
+def_start Def = refl
+def_start Let = refl
+def_start In = refl
+def_start If = refl
+def_start Then = refl
+def_start Else = refl
+def_start Num = refl
+def_start TypeBool = refl
+def_start Open = refl
+def_start Close = refl
+def_start Comma = refl
+def_start Gets = refl
+def_start Dot = refl
+def_start (Sign o) = refl
+def_start Number = refl
+def_start BadNumber = refl
+def_start Name = refl
+def_start Other = refl
+def_start End = refl
 
-abbrev no-piece : Start → Bool
-no-piece Nothing = true
-no-piece AUse = false
-no-piece AKind = false
-no-piece ARecord = false
-no-piece ADef = false
-no-piece NoItem = false
+abbrev no_piece : Start → Bool
+no_piece Nothing = true
+no_piece AUse = false
+no_piece AKind = false
+no_piece ARecord = false
+no_piece ADef = false
+no_piece NoItem = false
 
-end-start : (t : Token) → is-end t ≡ no-piece (start-of t)
-end-start Use = refl
-end-start Kind = refl
-end-start Rec = refl
-end-start Def = refl
-end-start Let = refl
-end-start In = refl
-end-start If = refl
-end-start Then = refl
-end-start Else = refl
-end-start Num = refl
-end-start TypeBool = refl
-end-start Open = refl
-end-start Close = refl
-end-start Comma = refl
-end-start Gets = refl
-end-start Dot = refl
-end-start (Sign o) = refl
-end-start Number = refl
-end-start BadNumber = refl
-end-start Name = refl
-end-start Other = refl
-end-start End = refl
+end_start : (t : Token) → is_end t ≡ no_piece (start_of t)
+end_start Use = refl
+end_start Kind = refl
+end_start Rec = refl
+end_start Def = refl
+end_start Let = refl
+end_start In = refl
+end_start If = refl
+end_start Then = refl
+end_start Else = refl
+end_start Num = refl
+end_start TypeBool = refl
+end_start Open = refl
+end_start Close = refl
+end_start Comma = refl
+end_start Gets = refl
+end_start Dot = refl
+end_start (Sign o) = refl
+end_start Number = refl
+end_start BadNumber = refl
+end_start Name = refl
+end_start Other = refl
+end_start End = refl
 
 -- what is read is never an item that isn't understood
 abbrev Fine : Got Item → Type 0
 Fine (it i us) = Understood i
 Fine (bad us) = Unit {0}
 
-fine-with : {A : Type 0} (g : Got A) (f : A → List Tok → Got Item) → ((a : A) (us : List Tok) → Fine (f a us)) → Fine (with1 g f)
-fine-with (it a us) f h = h a us
-fine-with (bad us) f h = tt
+fine_with : {A : Type 0} (g : Got A) (f : A → List Tok → Got Item) → ((a : A) (us : List Tok) → Fine (f a us)) → Fine (with1 g f)
+fine_with (it a us) f h = h a us
+fine_with (bad us) f h = tt
 
-fine-pick : (b : Bool) (x y : Got Item) → Fine x → Fine y → Fine (pick b x y)
-fine-pick true x y p q = p
-fine-pick false x y p q = q
+fine_pick : (b : Bool) (x y : Got Item) → Fine x → Fine y → Fine (pick b x y)
+fine_pick true x y p q = p
+fine_pick false x y p q = q
 
-fine-eat : (w : Word) (ts : List Tok) (f : Tok → List Tok → Got Item) → ((t : Tok) (us : List Tok) → Fine (f t us)) → Fine (eat w ts f)
-fine-eat w [] f h = tt
-fine-eat w (t ∷ ts) f h = fine-pick (same (t .w) w) (f t ts) (bad (t ∷ ts)) (h t ts) tt
+fine_eat : (w : Word) (ts : List Tok) (f : Tok → List Tok → Got Item) → ((t : Tok) (us : List Tok) → Fine (f t us)) → Fine (eat w ts f)
+fine_eat w [] f h = tt
+fine_eat w (t ∷ ts) f h = fine_pick (same t.w w) (f t ts) (bad (t ∷ ts)) (h t ts) tt
 
-fine-ended : (i : Item) (us : List Tok) → Understood i → Fine (ended i us)
-fine-ended i [] h = h
-fine-ended i (t ∷ ts) h = tt
+fine_ended : (i : Item) (us : List Tok) → Understood i → Fine (ended i us)
+fine_ended i [] h = h
+fine_ended i (t ∷ ts) h = tt
 
-fine-item : (t : Tok) (ts : List Tok) → Fine (an-item t ts)
-fine-item t ts =
-    fine-pick (same (t .w) k-use) _ _ (fine-with (a-word is-name ts) _ (λ x us. fine-ended (i-use x) us tt)) (
-    fine-pick (same (t .w) k-kind) _ _ (fine-with (a-word is-name ts) _ (λ x us. fine-eat t-gets us _ (λ g vs. fine-with (a-names vs) _ (λ xs ys. fine-ended (i-kind x xs) ys tt)))) (
-    fine-pick (same (t .w) k-rec) _ _ (fine-with (a-word is-name ts) _ (λ x us. fine-eat t-gets us _ (λ g vs. fine-with (a-list vs) _ (λ fs ys. fine-ended (i-rec x fs) ys tt)))) (
-    fine-pick (same (t .w) k-def) _ _ (fine-with (a-word is-name ts) _ (λ x us. fine-eat t-lp us _ (λ l vs. fine-with (a-params vs) _ (λ ps xs. fine-eat t-rp xs _ (λ r ys. fine-with (a-word is-type ys) _ (λ y zs. fine-eat t-gets zs _ (λ g rs. fine-with (an-expr rs) _ (λ e qs. fine-ended (i-def x ps y e) qs tt))))))))
+fine_item : (t : Tok) (ts : List Tok) → Fine (an_item t ts)
+fine_item t ts =
+    fine_pick (same t.w k_use) _ _ (fine_with (a_word is_name ts) _ (λ x us. fine_ended (i_use x) us tt)) (
+    fine_pick (same t.w k_kind) _ _ (fine_with (a_word is_name ts) _ (λ x us. fine_eat t_gets us _ (λ g vs. fine_with (a_names vs) _ (λ xs ys. fine_ended (i_kind x xs) ys tt)))) (
+    fine_pick (same t.w k_rec) _ _ (fine_with (a_word is_name ts) _ (λ x us. fine_eat t_gets us _ (λ g vs. fine_with (a_list vs) _ (λ fs ys. fine_ended (i_rec x fs) ys tt)))) (
+    fine_pick (same t.w k_def) _ _ (fine_with (a_word is_name ts) _ (λ x us. fine_eat t_lp us _ (λ l vs. fine_with (a_params vs) _ (λ ps xs. fine_eat t_rp xs _ (λ r ys. fine_with (a_word is_type ys) _ (λ y zs. fine_eat t_gets zs _ (λ g rs. fine_with (an_expr rs) _ (λ e qs. fine_ended (i_def x ps y e) qs tt))))))))
     tt)))
 
-reads-well : (t : Tok) (ts us : List Tok) (os : List Op) → item-ops t ts ≡ it os us → Understood (item-of (t ∷ ts)) × (os ≡ item-code (item-of (t ∷ ts)))
-reads-well t ts us os e = go (an-item t ts) refl (item-coded t ts ∙ e) (fine-item t ts)
+reads_well : (t : Tok) (ts us : List Tok) (os : List Op) → item_ops t ts ≡ it os us → Understood (item_of (t ∷ ts)) × (os ≡ item_code (item_of (t ∷ ts)))
+reads_well t ts us os e = go (an_item t ts) refl (item_coded t ts ∙ e) (fine_item t ts)
   where
-    go : (g : Got Item) → an-item t ts ≡ g → coded g ≡ it os us → Fine g → Understood (item-of (t ∷ ts)) × (os ≡ item-code (item-of (t ∷ ts)))
+    go : (g : Got Item) → an_item t ts ≡ g → coded g ≡ it os us → Fine g → Understood (item_of (t ∷ ts)) × (os ≡ item_code (item_of (t ∷ ts)))
     go (it i vs) p q f =
-        let x : item-of (t ∷ ts) ≡ i = item-free t ts ∙ ap (settled (t ∷ ts)) p in
-        let y : os ≡ item-code i = cc in
-        (subst Understood (sym x) f, y ∙ ap item-code (sym x))
+        let x : item_of (t ∷ ts) ≡ i = item_free t ts ∙ ap (settled (t ∷ ts)) p in
+        let y : os ≡ item_code i = cc in
+        (subst Understood (sym x) f, y ∙ ap item_code (sym x))
     go (bad vs) p q f = let x : zero ≡ suc zero = cc in absurd (omega arith)
 
-reads-badly : (t : Tok) (ts vs : List Tok) → item-ops t ts ≡ bad vs → item-of (t ∷ ts) ≡ settled (t ∷ ts) (bad vs)
-reads-badly t ts vs e = go (an-item t ts) refl (item-coded t ts ∙ e)
+reads_badly : (t : Tok) (ts vs : List Tok) → item_ops t ts ≡ bad vs → item_of (t ∷ ts) ≡ settled (t ∷ ts) (bad vs)
+reads_badly t ts vs e = go (an_item t ts) refl (item_coded t ts ∙ e)
   where
-    go : (g : Got Item) → an-item t ts ≡ g → coded g ≡ bad vs → item-of (t ∷ ts) ≡ settled (t ∷ ts) (bad vs)
+    go : (g : Got Item) → an_item t ts ≡ g → coded g ≡ bad vs → item_of (t ∷ ts) ≡ settled (t ∷ ts) (bad vs)
     go (it i us) p q = cc
-    go (bad us) p q = let y : us ≡ vs = cc in item-free t ts ∙ ap (settled (t ∷ ts)) (p ∙ ap bad y)
+    go (bad us) p q = let y : us ≡ vs = cc in item_free t ts ∙ ap (settled (t ∷ ts)) (p ∙ ap bad y)
 
 -- the items by how the line begins
-abbrev by-start : Start → Tok → List Tok → Got (List Op)
-by-start Nothing t ts = bad (t ∷ ts)
-by-start AUse t ts = use-ops ts
-by-start AKind t ts = block-ops Names ts
-by-start ARecord t ts = block-ops Fields ts
-by-start ADef t ts = def-ops ts
-by-start NoItem t ts = bad (t ∷ ts)
+abbrev by_start : Start → Tok → List Tok → Got (List Op)
+by_start Nothing t ts = bad (t ∷ ts)
+by_start AUse t ts = use_ops ts
+by_start AKind t ts = block_ops Names ts
+by_start ARecord t ts = block_ops Fields ts
+by_start ADef t ts = def_ops ts
+by_start NoItem t ts = bad (t ∷ ts)
 
-chosen : (s : Start) (t : Tok) (ts : List Tok) → pick (begins-use s) (use-ops ts) (pick (begins-kind s) (block-ops Names ts) (pick (begins-rec s) (block-ops Fields ts) (pick (begins-def s) (def-ops ts) (bad (t ∷ ts))))) ≡ by-start s t ts
+chosen : (s : Start) (t : Tok) (ts : List Tok) → pick (begins_use s) (use_ops ts) (pick (begins_kind s) (block_ops Names ts) (pick (begins_rec s) (block_ops Fields ts) (pick (begins_def s) (def_ops ts) (bad (t ∷ ts))))) ≡ by_start s t ts
 chosen Nothing t ts = refl
 chosen AUse t ts = refl
 chosen AKind t ts = refl
@@ -254,64 +248,64 @@ chosen ARecord t ts = refl
 chosen ADef t ts = refl
 chosen NoItem t ts = refl
 
-item-start : (t : Tok) (ts : List Tok) (s : Start) → s ≡ start-of (token-of (t .w)) → item-ops t ts ≡ by-start s t ts
-item-start t ts s e =
-    let w = t .w in
+item_start : (t : Tok) (ts : List Tok) (s : Start) → s ≡ start_of (token_of t.w) → item_ops t ts ≡ by_start s t ts
+item_start t ts s e =
+    let w = t.w in
     let f = facts w in
-    let u : same w k-use ≡ begins-use s = f .use-is ∙ use-start (token-of w) ∙ ap begins-use (sym e) in
-    let k : same w k-kind ≡ begins-kind s = f .kind-is ∙ kind-start (token-of w) ∙ ap begins-kind (sym e) in
-    let r : same w k-rec ≡ begins-rec s = f .rec-is ∙ rec-start (token-of w) ∙ ap begins-rec (sym e) in
-    let d : same w k-def ≡ begins-def s = f .def-is ∙ def-start (token-of w) ∙ ap begins-def (sym e) in
-    (λ i. pick (u i) (use-ops ts) (pick (k i) (block-ops Names ts) (pick (r i) (block-ops Fields ts) (pick (d i) (def-ops ts) (bad (t ∷ ts)))))) ∙ chosen s t ts
+    let u : same w k_use ≡ begins_use s = f.use_is ∙ use_start (token_of w) ∙ ap begins_use (sym e) in
+    let k : same w k_kind ≡ begins_kind s = f.kind_is ∙ kind_start (token_of w) ∙ ap begins_kind (sym e) in
+    let r : same w k_rec ≡ begins_rec s = f.rec_is ∙ rec_start (token_of w) ∙ ap begins_rec (sym e) in
+    let d : same w k_def ≡ begins_def s = f.def_is ∙ def_start (token_of w) ∙ ap begins_def (sym e) in
+    (λ i. pick (u i) (use_ops ts) (pick (k i) (block_ops Names ts) (pick (r i) (block_ops Fields ts) (pick (d i) (def_ops ts) (bad (t ∷ ts)))))) ∙ chosen s t ts
 
 -- what is seen first of a line
 module _ (line : List ℕ) (s : Seen) (h : SeenSays line 0 s) where
-  pub no-item : Nothing ≡ start-of (s .token) → item-of (left line 0) ≡ nothing
-  no-item e = go (is-end (s .token)) (end-start (s .token) ∙ ap no-piece (sym e)) (h .place)
+  pub no_item : Nothing ≡ start_of s.token → item_of (left line 0) ≡ nothing
+  no_item e = go (is_end s.token) (end_start s.token ∙ ap no_piece (sym e)) h.place
     where
-      go : (b : Bool) → b ≡ true → StandsIf b line 0 (s .from) (s .to) → item-of (left line 0) ≡ nothing
-      go true p q = ap item-of (q .reads)
+      go : (b : Bool) → b ≡ true → StandsIf b line 0 s.from s.to → item_of (left line 0) ≡ nothing
+      go true p q = ap item_of q.reads
       go false p q = absurd (false≢true p)
 
-  pub first-word : (x : Start) → x ≡ start-of (s .token) → no-piece x ≡ false → NextAt line 0 (s .from) (s .to)
-  first-word x e n = go (is-end (s .token)) (end-start (s .token) ∙ ap no-piece (sym e) ∙ n) (h .place)
+  pub first_word : (x : Start) → x ≡ start_of s.token → no_piece x ≡ false → NextAt line 0 s.from s.to
+  first_word x e n = go (is_end s.token) (end_start s.token ∙ ap no_piece (sym e) ∙ n) h.place
     where
-      go : (b : Bool) → b ≡ false → StandsIf b line 0 (s .from) (s .to) → NextAt line 0 (s .from) (s .to)
+      go : (b : Bool) → b ≡ false → StandsIf b line 0 s.from s.to → NextAt line 0 s.from s.to
       go true p q = absurd (false≢true (sym p))
       go false p q = q
 
-  module _ (x : Start) (e : x ≡ start-of (s .token)) (n : no-piece x ≡ false) where
+  module _ (x : Start) (e : x ≡ start_of s.token) (n : no_piece x ≡ false) where
     abbrev t : Tok
-    t = piece line (s .from) (s .to)
+    t = piece line s.from s.to
 
-    reads : left line 0 ≡ t ∷ left line (s .to)
-    reads = first-word x e n .reads
+    reads : left line 0 ≡ t ∷ left line s.to
+    reads = (first_word x e n).reads
 
-    word-start : x ≡ start-of (token-of (t .w))
-    word-start = e ∙ ap start-of (h .token ∙ ap (λ ts. token-of (next ts)) reads)
+    word_start : x ≡ start_of (token_of t.w)
+    word_start = e ∙ ap start_of (h.token ∙ ap (λ ts. token_of (next ts)) reads)
 
-    pub item-well : (os : List Op) (us : List Tok) → by-start x t (left line (s .to)) ≡ it os us → Understood (item-of (left line 0)) × (os ≡ item-code (item-of (left line 0)))
-    item-well os us p = subst (λ ts. Understood (item-of ts) × (os ≡ item-code (item-of ts))) (sym reads) (reads-well t (left line (s .to)) us os (item-start t (left line (s .to)) x word-start ∙ p))
+    pub item_well : (os : List Op) (us : List Tok) → by_start x t (left line s.to) ≡ it os us → Understood (item_of (left line 0)) × (os ≡ item_code (item_of (left line 0)))
+    item_well os us p = subst (λ ts. Understood (item_of ts) × (os ≡ item_code (item_of ts))) (sym reads) (reads_well t (left line s.to) us os (item_start t (left line s.to) x word_start ∙ p))
 
-    pub item-badly : (vs : List Tok) → by-start x t (left line (s .to)) ≡ bad vs → item-of (left line 0) ≡ settled (left line 0) (bad vs)
-    item-badly vs p = subst (λ ts. item-of ts ≡ settled ts (bad vs)) (sym reads) (reads-badly t (left line (s .to)) vs (item-start t (left line (s .to)) x word-start ∙ p))
+    pub item_badly : (vs : List Tok) → by_start x t (left line s.to) ≡ bad vs → item_of (left line 0) ≡ settled (left line 0) (bad vs)
+    item_badly vs p = subst (λ ts. item_of ts ≡ settled ts (bad vs)) (sym reads) (reads_badly t (left line s.to) vs (item_start t (left line s.to) x word_start ∙ p))
 
-    pub item-other : by-start x t (left line (s .to)) ≡ bad (t ∷ left line (s .to)) → item-of (left line 0) ≡ settled (left line 0) (bad (left line 0))
-    item-other p = item-badly (t ∷ left line (s .to)) p ∙ ap (λ ts. settled (left line 0) (bad ts)) (sym reads)
+    pub item_other : by_start x t (left line s.to) ≡ bad (t ∷ left line s.to) → item_of (left line 0) ≡ settled (left line 0) (bad (left line 0))
+    item_other p = item_badly (t ∷ left line s.to) p ∙ ap (λ ts. settled (left line 0) (bad ts)) (sym reads)
 
-  pub def-read : ADef ≡ start-of (s .token) → (base : ℕ) (vs : List ℕ) (r : Result ℕ Wrong) → ItemSays line base vs (def-ops (left line (s .to))) r → ItemRead line base vs r
-  def-read e base vs (Ok n) h = let x = item-well ADef e refl (h .0) (h .1) (h .2) in (x .0, h .3 ∙ x .1)
-  def-read e base vs (Err w) h = item-badly ADef e refl (left line (w .at)) h
+  pub def_read : ADef ≡ start_of s.token → (base : ℕ) (vs : List ℕ) (r : Result ℕ Wrong) → ItemSays line base vs (def_ops (left line s.to)) r → ItemRead line base vs r
+  def_read e base vs (Ok n) h = let x = item_well ADef e refl h.0 h.1 h.2 in (x.0, h.3 ∙ x.1)
+  def_read e base vs (Err w) h = item_badly ADef e refl (left line w.at) h
 
 -- a line's last piece ends within it
-ends-within : (line : List ℕ) (at : ℕ) (ts : List Tok) → Rising line at ts → end-of ts ≤ length line
-ends-within line at [] r = omega arith
-ends-within line at (t ∷ []) r = r .0 .within
-ends-within line at (t ∷ u ∷ ts) r = ends-within line (t .to) (u ∷ ts) (r .1)
+ends_within : (line : List ℕ) (at : ℕ) (ts : List Tok) → Rising line at ts → end_of ts ≤ length line
+ends_within line at [] r = omega arith
+ends_within line at (t ∷ []) r = r.0.within
+ends_within line at (t ∷ u ∷ ts) r = ends_within line t.to (u ∷ ts) r.1
 
-pub end-within : (line : List ℕ) → end-of (left line 0) ≤ length line
-end-within line = ends-within line 0 (left line 0) (at-start line)
+pub end_within : (line : List ℕ) → end_of (left line 0) ≤ length line
+end_within line = ends_within line 0 (left line 0) (at_start line)
   where
-    at-start : (line : List ℕ) → Rising line 0 (left line 0)
-    at-start [] = pieces-rise []
-    at-start (x ∷ xs) = pieces-rise (x ∷ xs)
+    at_start : (line : List ℕ) → Rising line 0 (left line 0)
+    at_start [] = pieces_rise []
+    at_start (x ∷ xs) = pieces_rise (x ∷ xs)

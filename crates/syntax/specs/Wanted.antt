@@ -1,20 +1,20 @@
 -- What can be wanted of the next piece, as a test on its token.
-use mathlib.Core.Bool.{Bool, true, false}
-use Rattle·base.specs.Base.{Word, same}
-use Rattle·lexer.specs.Words.{is-name, is-type, t-gets, t-lp, t-rp, t-comma}
-use Rattle·lexer.specs.declared.token.Token.{Token}
-use Rattle·lexer.specs.declared.token.Token.the-variants.{Use, Kind, Rec, Def, Let, In, If, Then, Else, Num, Bool as TypeBool, Open, Close, Comma, Gets, Dot, Sign, Number, BadNumber, Name, Other, End}
-use Rattle·syntax·specs.declared.wanted.Wanted.{Wanted}
-use Rattle·syntax·specs.declared.wanted.Wanted.the-variants.{Name as AName, TypeWord as AType, Gets as AGets, Open as AOpen, Close as AClose, Comma as AComma}
+use Rattle.std.specs.Prelude.{Bool, true, false}
+use Rattle.base.specs.Base.{Word, same}
+use Rattle.lexer.specs.Words.{is_name, is_type, t_gets, t_lp, t_rp, t_comma}
+use Rattle.lexer.specs.declared.token.Token.{Token}
+use Rattle.lexer.specs.declared.token.Token.TheVariants.{Use, Kind, Rec, Def, Let, In, If, Then, Else, Num, Bool as TypeBool, Open, Close, Comma, Gets, Dot, Sign, Number, BadNumber, Name, Other, End}
+use Rattle.syntax.specs.declared.wanted.Wanted.{Wanted}
+use Rattle.syntax.specs.declared.wanted.Wanted.TheVariants.{Name as AName, TypeWord as AType, Gets as AGets, Open as AOpen, Close as AClose, Comma as AComma}
 
 -- whether a word is what is wanted
 abbrev pub wants : Wanted → Word → Bool
-wants AName w = is-name w
-wants AType w = is-type w
-wants AGets w = same w t-gets
-wants AOpen w = same w t-lp
-wants AClose w = same w t-rp
-wants AComma w = same w t-comma
+wants AName w = is_name w
+wants AType w = is_type w
+wants AGets w = same w t_gets
+wants AOpen w = same w t_lp
+wants AClose w = same w t_rp
+wants AComma w = same w t_comma
 
 -- and whether a token is
 abbrev pub fits : Wanted → Token → Bool

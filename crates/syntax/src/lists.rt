@@ -1,15 +1,10 @@
 // Lists of a line: the constants of a kind, the fields of a record, the parameters of a def.
-ghost use mathlib.Core.Path.{_≡_};
-ghost use Prim.Native.Nat.{_+_, _*_, _<_, _≤_};
-ghost use lib.ListN.{length, take};
-ghost use Rattle·lexer.specs.Tokens.{left};
-ghost use Rattle·syntax·specs.Reads.{entry, listed as reads, EntrySays, ReadsSays};
-use crate::wanted::Wanted;
-use crate::wanted::Wrong;
-use crate::wanted::expect;
-use crate::wanted::seen;
-use parser::code::Op;
-use parser::code::emit;
+ghost use Rattle.std.specs.Prelude.{◌≡◌, ◌+◌, ◌*◌, ◌<◌, ◌≤◌, length, take};
+ghost use Rattle.lexer.specs.Tokens.{left};
+ghost use Rattle.syntax.specs.Reads.{entry, listed as reads, EntrySays, ReadsSays};
+
+use crate::wanted::{Wanted, Wrong, expect, seen};
+use parser::code::{Op, emit};
 
 // What a list holds: names, or names with types.
 #[derive(Clone, Copy)]
@@ -33,8 +28,8 @@ pub struct Entry {
 }
 
 fn read_entry(words: &[u32], len: usize, at: usize, listed: Listed) -> Result<Entry, Wrong>
-    requires { ⌜ len ≤ length (now words) ⌝ ∗ ⌜ len < 4294967296 ⌝ }
-    ensures { λ r. ⌜ EntrySays (take len (now (words .entry))) «at» (entry listed (left (take len (now (words .entry))) «at»)) r ⌝ }
+    requires { (len ≤ length words.now) × (len < 4294967296) }
+    ensures { EntrySays (take len words.now) «at» (entry listed (left (take len words.now) «at»)) result }
 {
     let name = expect(words, len, at, Wanted::Name)?;
     match listed {
@@ -61,12 +56,12 @@ pub fn read_list(
     from: usize,
     listed: Listed,
 ) -> Result<Place, Wrong>
-    requires small { ⌜ len < 4294967296 ⌝ }
-    requires line { ⌜ len ≤ base ⌝ }
-    requires room { ⌜ base + 5 * len ≤ length (now words) ⌝ }
-    requires behind { ⌜ (n < from) × (from ≤ len) ⌝ }
-    ensures front { λ _. ⌜ take base (now (words .exit)) ≡ take base (now (words .entry)) ⌝ }
-    ensures reads { λ r. ⌜ ReadsSays (take len (now (words .entry))) base n (now (words .entry)) (now (words .exit)) (reads listed (left (take len (now (words .entry))) from)) r ⌝ }
+    requires small { len < 4294967296 }
+    requires line { len ≤ base }
+    requires room { base + 5 * len ≤ length words.old }
+    requires behind { (n < from) × (from ≤ len) }
+    ensures front { take base words.new ≡ take base words.old }
+    ensures reads { ReadsSays (take len words.old) base n words.old words.new (reads listed (left (take len words.old) from)) result }
 {
     let mut at = from;
     let mut count = n;

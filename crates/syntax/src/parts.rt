@@ -1,27 +1,18 @@
 // The parts of an item, each read into operations behind those that stand already.
-ghost use mathlib.Core.Path.{_≡_};
-ghost use mathlib.Core.List.{List};
-ghost use Prim.Native.Nat.{ℕ, _+_, _*_, _<_, _≤_};
-ghost use lib.ListN.{length, take};
-ghost use Rattle·lexer.specs.Tokens.{left};
-ghost use Rattle·parser.specs.Rows.{«op-is», «span-of»};
-ghost use Rattle·syntax·specs.Reads.{head, «start-ops», «params-ops», «result-ops», EndSays, ReadsSays};
-use crate::lists::Listed;
-use crate::lists::Place;
-use crate::lists::read_list;
-use crate::wanted::Wanted;
-use crate::wanted::Wrong;
-use crate::wanted::expect;
-use crate::wanted::seen;
+ghost use Rattle.std.specs.Prelude.{◌≡◌, ℕ, ◌+◌, ◌*◌, ◌<◌, ◌≤◌, List, length, take};
+ghost use Rattle.lexer.specs.Tokens.{left};
+ghost use Rattle.parser.specs.Rows.{op_is, span_of};
+ghost use Rattle.syntax.specs.Reads.{head, start_ops, params_ops, result_ops, EndSays, ReadsSays};
+
+use crate::lists::{Listed, Place, read_list};
+use crate::wanted::{Wanted, Wrong, expect, seen};
 use lexer::token::Token;
-use parser::code::Op;
-use parser::code::Span;
-use parser::code::emit;
+use parser::code::{Op, Span, emit};
 
 // Nothing may be left from a place on.
 pub fn expect_end(words: &[u32], len: usize, at: usize) -> Result<(), Wrong>
-    requires { ⌜ len ≤ length (now words) ⌝ }
-    ensures { λ r. ⌜ EndSays (take len (now (words .entry))) «at» r ⌝ }
+    requires { len ≤ length words.now }
+    ensures { EndSays (take len words.now) «at» result }
 {
     let next = seen(words, len, at);
     if matches!(next.token, Token::End) {
@@ -33,7 +24,7 @@ pub fn expect_end(words: &[u32], len: usize, at: usize) -> Result<(), Wrong>
 
 // How the name of a kind, or of a record or def, is said.
 fn head_op(listed: Listed, name: Span) -> Op
-    ensures { λ r. ⌜ ((line : List ℕ) → «op-is» line r ≡ head listed («span-of» line name)) ⌝ }
+    ensures { (line : List ℕ) → op_is line result ≡ head listed (span_of line name) }
 {
     match listed {
         Listed::Names => Op::Const(name),
@@ -50,12 +41,12 @@ pub fn read_start(
     listed: Listed,
     sign: Wanted,
 ) -> Result<Place, Wrong>
-    requires small { ⌜ len < 4294967296 ⌝ }
-    requires line { ⌜ len ≤ base ⌝ }
-    requires room { ⌜ base + 5 * len ≤ length (now words) ⌝ }
-    requires behind { ⌜ (0 < from) × (from ≤ len) ⌝ }
-    ensures front { λ _. ⌜ take base (now (words .exit)) ≡ take base (now (words .entry)) ⌝ }
-    ensures reads { λ r. ⌜ ReadsSays (take len (now (words .entry))) base 0 (now (words .entry)) (now (words .exit)) («start-ops» listed sign (left (take len (now (words .entry))) from)) r ⌝ }
+    requires small { len < 4294967296 }
+    requires line { len ≤ base }
+    requires room { base + 5 * len ≤ length words.old }
+    requires behind { (0 < from) × (from ≤ len) }
+    ensures front { take base words.new ≡ take base words.old }
+    ensures reads { ReadsSays (take len words.old) base 0 words.old words.new (start_ops listed sign (left (take len words.old) from)) result }
 {
     let name = expect(words, len, from, Wanted::Name)?;
     let behind = expect(words, len, name.to as usize, sign)?;
@@ -74,12 +65,12 @@ pub fn read_params(
     n: usize,
     from: usize,
 ) -> Result<Place, Wrong>
-    requires small { ⌜ len < 4294967296 ⌝ }
-    requires line { ⌜ len ≤ base ⌝ }
-    requires room { ⌜ base + 5 * len ≤ length (now words) ⌝ }
-    requires behind { ⌜ (n < from) × (from ≤ len) ⌝ }
-    ensures front { λ _. ⌜ take base (now (words .exit)) ≡ take base (now (words .entry)) ⌝ }
-    ensures reads { λ r. ⌜ ReadsSays (take len (now (words .entry))) base n (now (words .entry)) (now (words .exit)) («params-ops» (left (take len (now (words .entry))) from)) r ⌝ }
+    requires small { len < 4294967296 }
+    requires line { len ≤ base }
+    requires room { base + 5 * len ≤ length words.old }
+    requires behind { (n < from) × (from ≤ len) }
+    ensures front { take base words.new ≡ take base words.old }
+    ensures reads { ReadsSays (take len words.old) base n words.old words.new (params_ops (left (take len words.old) from)) result }
 {
     let next = seen(words, len, from);
     if Wanted::Close.is(next.token) {
@@ -96,12 +87,12 @@ pub fn read_result(
     n: usize,
     from: usize,
 ) -> Result<Place, Wrong>
-    requires small { ⌜ len < 4294967296 ⌝ }
-    requires line { ⌜ len ≤ base ⌝ }
-    requires room { ⌜ base + 5 * len ≤ length (now words) ⌝ }
-    requires behind { ⌜ (n < from) × (from ≤ len) ⌝ }
-    ensures front { λ _. ⌜ take base (now (words .exit)) ≡ take base (now (words .entry)) ⌝ }
-    ensures reads { λ r. ⌜ ReadsSays (take len (now (words .entry))) base n (now (words .entry)) (now (words .exit)) («result-ops» (left (take len (now (words .entry))) from)) r ⌝ }
+    requires small { len < 4294967296 }
+    requires line { len ≤ base }
+    requires room { base + 5 * len ≤ length words.old }
+    requires behind { (n < from) × (from ≤ len) }
+    ensures front { take base words.new ≡ take base words.old }
+    ensures reads { ReadsSays (take len words.old) base n words.old words.new (result_ops (left (take len words.old) from)) result }
 {
     let close = expect(words, len, from, Wanted::Close)?;
     let ty = expect(words, len, close.to as usize, Wanted::TypeWord)?;

@@ -1,18 +1,14 @@
 // The whole: a line, as the flat code of the item that it is, or the place where it isn't understood.
-ghost use mathlib.Core.Path.{_≡_};
-ghost use Prim.Native.Nat.{_+_, _*_, _<_, _≤_};
-ghost use lib.ListN.{length, take};
-ghost use Rattle·lexer.specs.Tokens.{left};
-ghost use Rattle·grammar.specs.Grammar.{bad, settled, «i-bad»};
-ghost use Rattle·syntax·specs.Line.{ItemRead, ItemPlaced, LineSays, «room-for»};
+ghost use Rattle.std.specs.Prelude.{◌≡◌, ◌+◌, ◌*◌, ◌<◌, ◌≤◌, length, take};
+ghost use Rattle.lexer.specs.Tokens.{left};
+ghost use Rattle.grammar.specs.Grammar.{bad, settled, i_bad};
+ghost use Rattle.syntax.specs.Line.{ItemRead, ItemPlaced, LineSays, room_for};
+
 use crate::defs::read_def;
-use crate::items::read_block;
-use crate::items::read_use;
+use crate::items::{read_block, read_use};
 use crate::lists::Listed;
-use crate::start::Start;
-use crate::start::start_of;
-use crate::wanted::Wrong;
-use crate::wanted::seen;
+use crate::start::{Start, start_of};
+use crate::wanted::{Wrong, seen};
 use lexer::reader::last_end;
 use lexer::token::Token;
 use parser::code::Span;
@@ -34,7 +30,7 @@ const WORDS_MORE: usize = 64;
 
 // How many words are wanted behind base for a line of so many bytes.
 pub fn room(len: usize) -> usize
-    ensures { λ r. ⌜ (len < 4294967000 → r ≡ «room-for» len) ⌝ }
+    ensures { len < 4294967000 → result ≡ room_for len }
 {
     if len > LONGEST {
         return usize::MAX;
@@ -44,8 +40,8 @@ pub fn room(len: usize) -> usize
 
 // Where a line goes wrong: the place of the piece that is next from a place on, or the last piece's end.
 fn place_of(words: &[u32], len: usize, wrong: Wrong) -> Span
-    requires { ⌜ len ≤ length (now words) ⌝ ∗ ⌜ len < 4294967000 ⌝ }
-    ensures { λ r. ⌜ settled (left (take len (now (words .entry))) 0) (bad (left (take len (now (words .entry))) (wrong .«at»))) ≡ «i-bad» (r .from) (r .to) ⌝ }
+    requires { (len ≤ length words.now) × (len < 4294967000) }
+    ensures { settled (left (take len words.now) 0) (bad (left (take len words.now) wrong.«at»)) ≡ i_bad result.from result.to }
 {
     let next = seen(words, len, wrong.at);
     if matches!(next.token, Token::End) {
@@ -60,11 +56,11 @@ fn place_of(words: &[u32], len: usize, wrong: Wrong) -> Span
 
 // The item, by the word with which the line begins.
 fn read_item(words: &mut [u32], len: usize, base: usize) -> Result<usize, Wrong>
-    requires small { ⌜ len < 4294967000 ⌝ }
-    requires line { ⌜ len ≤ base ⌝ }
-    requires room { ⌜ base + 14 * len + 64 ≤ length (now words) ⌝ }
-    ensures front { λ _. ⌜ take base (now (words .exit)) ≡ take base (now (words .entry)) ⌝ }
-    ensures reads { λ r. ⌜ ItemRead (take len (now (words .entry))) base (now (words .exit)) r ⌝ }
+    requires small { len < 4294967000 }
+    requires line { len ≤ base }
+    requires room { base + 14 * len + 64 ≤ length words.old }
+    ensures front { take base words.new ≡ take base words.old }
+    ensures reads { ItemRead (take len words.old) base words.new result }
 {
     let word = seen(words, len, 0);
     match start_of(word.token) {
@@ -79,11 +75,11 @@ fn read_item(words: &mut [u32], len: usize, base: usize) -> Result<usize, Wrong>
 
 // The same, with the place where the line isn't understood.
 fn read_placed(words: &mut [u32], len: usize, base: usize) -> Result<usize, Span>
-    requires small { ⌜ len < 4294967000 ⌝ }
-    requires line { ⌜ len ≤ base ⌝ }
-    requires room { ⌜ base + 14 * len + 64 ≤ length (now words) ⌝ }
-    ensures front { λ _. ⌜ take base (now (words .exit)) ≡ take base (now (words .entry)) ⌝ }
-    ensures reads { λ r. ⌜ ItemPlaced (take len (now (words .entry))) base (now (words .exit)) r ⌝ }
+    requires small { len < 4294967000 }
+    requires line { len ≤ base }
+    requires room { base + 14 * len + 64 ≤ length words.old }
+    ensures front { take base words.new ≡ take base words.old }
+    ensures reads { ItemPlaced (take len words.old) base words.new result }
 {
     match read_item(words, len, base) {
         Ok(count) => Ok(count),
@@ -94,8 +90,8 @@ fn read_placed(words: &mut [u32], len: usize, base: usize) -> Result<usize, Span
 // The line stands in the first len words; its code comes to stand from base on, as many operations as are given back, and what
 // stands before base stays as it was.
 pub fn read_line(words: &mut [u32], len: usize, base: usize) -> Result<usize, Refusal>
-    ensures front { λ _. ⌜ take base (now (words .exit)) ≡ take base (now (words .entry)) ⌝ }
-    ensures reads { λ r. ⌜ LineSays (now (words .entry)) len base (now (words .exit)) r ⌝ }
+    ensures front { take base words.new ≡ take base words.old }
+    ensures reads { LineSays words.old len base words.new result }
 {
     if len > LONGEST || len > base || base > words.len() || words.len() - base < room(len) {
         return Err(Refusal::NoRoom);

@@ -1,6 +1,7 @@
 // How a line begins.
-ghost use mathlib.Core.Path.{_≡_};
-ghost use Rattle·syntax·specs.Begins.{«start-of»};
+ghost use Rattle.std.specs.Prelude.{◌≡◌};
+ghost use Rattle.syntax.specs.Begins.{start_of};
+
 use lexer::token::Token;
 
 // There is nothing, or a word that begins an item, or something else.
@@ -15,7 +16,7 @@ pub enum Start {
 }
 
 pub fn start_of(first: Token) -> Start
-    ensures { λ r. ⌜ r ≡ «start-of» first ⌝ }
+    ensures { result ≡ start_of first }
 {
     match first {
         Token::End => Start::Nothing,

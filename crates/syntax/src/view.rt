@@ -1,19 +1,13 @@
 // The typed view of a line that was read into flat code: its cases hold parts of the line and of its operations.
-ghost use mathlib.Core.Path.{_≡_};
-ghost use mathlib.Core.List.{List, _∷_};
-ghost use Prim.Native.Nat.{ℕ, _+_, _-_, _*_, _/_, _≤_};
-ghost use lib.ListN.{length, take, drop};
-ghost use lib.Dec.{T};
-ghost use Rattle·std.specs.Finite.{nth};
-ghost use Rattle·std.specs.declared.option.Option.the-variants.{Some};
-ghost use Rattle·grammar.specs.Grammar.{Item as Meant};
-ghost use Rattle·grammar.specs.Code.{«item-code», «o-new»};
-ghost use Rattle·parser.specs.Rows.{ops, «ops-of», «op-is», «span-of»};
-ghost use Rattle·syntax·specs.View.{«piece-of», «is-slot», «slot-in», lead, GetSays, ResultSays, ViewSays};
+ghost use Rattle.std.specs.Prelude.{◌≡◌, ℕ, ◌+◌, ◌-◌, ◌*◌, ◌/◌, ◌≤◌, T, List, ◌∷◌, length, take, drop, Some};
+ghost use Rattle.std.specs.List.{slice_get};
+ghost use Rattle.grammar.specs.Grammar.{Item as Meant};
+ghost use Rattle.grammar.specs.Code.{item_code, o_new};
+ghost use Rattle.parser.specs.Rows.{ops, ops_of, op_is, span_of};
+ghost use Rattle.syntax.specs.View.{piece_of, is_slot, slot_in, lead, GetSays, ResultSays, ViewSays};
+
 use lexer::reader::Piece;
-use parser::code::Op;
-use parser::code::Span;
-use parser::code::op_at;
+use parser::code::{Op, Span, op_at};
 
 // Operations of a line, in words: a part of the row in which they stand, five words an operation.
 #[derive(Clone, Copy)]
@@ -40,7 +34,7 @@ pub enum Item<'a> {
 
 // The words of a row between two places, as far as it goes.
 fn part<'a>(row: &'a [u32], from: usize, to: usize) -> &'a [u32]
-    ensures { λ r. ⌜ now r ≡ take (to - from) (drop from (now (row .entry))) ⌝ }
+    ensures { result.now ≡ take (to - from) (drop from row.now) }
 {
     let end = to.min(row.len());
     &row[from.min(end)..end]
@@ -48,7 +42,7 @@ fn part<'a>(row: &'a [u32], from: usize, to: usize) -> &'a [u32]
 
 // The part of a line between two places; what lies outside of the line counts for nothing.
 pub fn piece<'a>(line: &'a [u32], span: Span) -> Piece<'a>
-    ensures { λ r. ⌜ «piece-of» r ≡ «span-of» (now (line .entry)) span ⌝ }
+    ensures { piece_of result ≡ span_of line.now span }
 {
     let from = span.from as usize;
     let to = span.to as usize;
@@ -61,7 +55,7 @@ pub fn piece<'a>(line: &'a [u32], span: Span) -> Piece<'a>
 
 // Whether an operation is a field or a parameter.
 fn is_slot(op: Op) -> bool
-    ensures { λ r. ⌜ ((line : List ℕ) → r ≡ «is-slot» («op-is» line op)) ⌝ }
+    ensures { (line : List ℕ) → result ≡ is_slot (op_is line op) }
 {
     matches!(op, Op::Slot(_, _))
 }
@@ -69,22 +63,22 @@ fn is_slot(op: Op) -> bool
 impl<'a> Ops<'a> {
     // How many there are.
     pub fn len(&self) -> usize
-        ensures { λ r. ⌜ r ≡ length (now (now (self .entry) .code)) / 5 ⌝ }
+        ensures { result ≡ length self.now.code.now / 5 }
     {
         self.code.len() / 5
     }
 
     // The operation with a number that one has.
     fn op(&self, i: usize) -> Op
-        requires { ⌜ 5 * i + 5 ≤ length (now (now self .code)) ⌝ }
-        ensures { λ r. ⌜ nth (ops (now (now (self .entry) .line)) (now (now (self .entry) .code))) i ≡ Some («op-is» (now (now (self .entry) .line)) r) ⌝ }
+        requires { 5 * i + 5 ≤ length self.now.code.now }
+        ensures { slice_get (ops self.now.line.now self.now.code.now) i ≡ Some (op_is self.now.line.now result) }
     {
         op_at(self.code, 0, i)
     }
 
     // The operation with a number, if there is one.
     pub fn get(&self, i: usize) -> Option<Op>
-        ensures { λ r. ⌜ GetSays (now (now (self .entry) .line)) (now (now (self .entry) .code)) i r ⌝ }
+        ensures { GetSays self.now.line.now self.now.code.now i result }
     {
         if i < self.len() {
             Some(self.op(i))
@@ -95,9 +89,9 @@ impl<'a> Ops<'a> {
 
     // The first n of them.
     fn before(&self, n: usize) -> Ops<'a>
-        requires { ⌜ 5 * n ≤ length (now (now self .code)) ⌝ }
-        ensures line { λ r. ⌜ now (r .line) ≡ now (now (self .entry) .line) ⌝ }
-        ensures code { λ r. ⌜ ((line : List ℕ) → ops line (now (r .code)) ≡ take n (ops line (now (now (self .entry) .code)))) ⌝ }
+        requires { 5 * n ≤ length self.now.code.now }
+        ensures line { result.line.now ≡ self.now.line.now }
+        ensures code { (line : List ℕ) → ops line result.code.now ≡ take n (ops line self.now.code.now) }
     {
         Ops {
             line: self.line,
@@ -107,9 +101,9 @@ impl<'a> Ops<'a> {
 
     // Those behind the first n.
     fn behind(&self, n: usize) -> Ops<'a>
-        requires { ⌜ 5 * n ≤ length (now (now self .code)) ⌝ }
-        ensures line { λ r. ⌜ now (r .line) ≡ now (now (self .entry) .line) ⌝ }
-        ensures code { λ r. ⌜ ((line : List ℕ) → ops line (now (r .code)) ≡ drop n (ops line (now (now (self .entry) .code)))) ⌝ }
+        requires { 5 * n ≤ length self.now.code.now }
+        ensures line { result.line.now ≡ self.now.line.now }
+        ensures code { (line : List ℕ) → ops line result.code.now ≡ drop n (ops line self.now.code.now) }
     {
         Ops {
             line: self.line,
@@ -119,8 +113,8 @@ impl<'a> Ops<'a> {
 
     // Whether one is a field or a parameter.
     fn slot_at(&self, i: usize) -> bool
-        ensures within { λ r. ⌜ (T r → 5 * i + 5 ≤ length (now (now (self .entry) .code))) ⌝ }
-        ensures slot { λ r. ⌜ r ≡ «slot-in» (nth (ops (now (now (self .entry) .line)) (now (now (self .entry) .code))) i) ⌝ }
+        ensures within { T result → 5 * i + 5 ≤ length self.now.code.now }
+        ensures slot { result ≡ slot_in (slice_get (ops self.now.line.now self.now.code.now) i) }
     {
         match self.get(i) {
             Some(op) => is_slot(op),
@@ -130,7 +124,7 @@ impl<'a> Ops<'a> {
 
     // The type of the result that one names.
     fn result_at(&self, i: usize) -> Option<Span>
-        ensures { λ r. ⌜ ResultSays (now (now (self .entry) .line)) (now (now (self .entry) .code)) i r ⌝ }
+        ensures { ResultSays self.now.line.now self.now.code.now i result }
     {
         let Some(op) = self.get(i) else {
             return None;
@@ -143,8 +137,8 @@ impl<'a> Ops<'a> {
 
     // How many fields or parameters lead.
     fn slots(&self) -> usize
-        ensures within { λ r. ⌜ 5 * r ≤ length (now (now (self .entry) .code)) ⌝ }
-        ensures leads { λ r. ⌜ lead (ops (now (now (self .entry) .line)) (now (now (self .entry) .code))) ≡ r ⌝ }
+        ensures within { 5 * result ≤ length self.now.code.now }
+        ensures leads { lead (ops self.now.line.now self.now.code.now) ≡ result }
     {
         let mut n = 0;
         while self.slot_at(n) {
@@ -155,7 +149,7 @@ impl<'a> Ops<'a> {
 
     // The record or def with a name that these stand behind.
     fn named(&self, name: Piece<'a>) -> Item<'a>
-        ensures { λ r. ⌜ ((i : Meant) → «o-new» («piece-of» (name .entry)) ∷ ops (now (now (self .entry) .line)) (now (now (self .entry) .code)) ≡ «item-code» i → ViewSays (now (now (self .entry) .line)) i r) ⌝ }
+        ensures { (i : Meant) → o_new (piece_of name.entry) ∷ ops self.now.line.now self.now.code.now ≡ item_code i → ViewSays self.now.line.now i result }
     {
         let n = self.slots();
         match self.result_at(n) {
@@ -171,7 +165,7 @@ impl<'a> Ops<'a> {
 
     // The item that these are the code of.
     fn item(&self) -> Item<'a>
-        ensures { λ r. ⌜ ((i : Meant) → ops (now (now (self .entry) .line)) (now (now (self .entry) .code)) ≡ «item-code» i → ViewSays (now (now (self .entry) .line)) i r) ⌝ }
+        ensures { (i : Meant) → ops self.now.line.now self.now.code.now ≡ item_code i → ViewSays self.now.line.now i result }
     {
         let Some(op) = self.get(0) else {
             return Item::Nothing;
@@ -188,7 +182,7 @@ impl<'a> Ops<'a> {
 
 // The item that the count operations from base on are the code of.
 pub fn item_of<'a>(words: &'a [u32], len: usize, base: usize, count: usize) -> Item<'a>
-    ensures { λ r. ⌜ ((i : Meant) → len ≤ length (now (words .entry)) → base + 5 * count ≤ length (now (words .entry)) → «ops-of» (take len (now (words .entry))) base count (now (words .entry)) ≡ «item-code» i → ViewSays (take len (now (words .entry))) i r) ⌝ }
+    ensures { (i : Meant) → len ≤ length words.now → base + 5 * count ≤ length words.now → ops_of (take len words.now) base count words.now ≡ item_code i → ViewSays (take len words.now) i result }
 {
     if len > words.len() || base > words.len() || count > (words.len() - base) / 5 {
         return Item::Nothing;

@@ -1,13 +1,11 @@
 // What can be wanted of the next piece, and taking it.
-ghost use mathlib.Core.Path.{_≡_};
-ghost use Prim.Native.Nat.{_<_, _≤_};
-ghost use lib.ListN.{length, take};
-ghost use Rattle·lexer.specs.Seen.{SeenSays};
-ghost use Rattle·lexer.specs.Tokens.{left};
-ghost use Rattle·syntax·specs.Wanted.{fits};
-ghost use Rattle·syntax·specs.Reads.{word, TakesSays};
-use lexer::reader::Seen;
-use lexer::reader::peek;
+ghost use Rattle.std.specs.Prelude.{◌≡◌, ◌<◌, ◌≤◌, length, take};
+ghost use Rattle.lexer.specs.Seen.{SeenSays};
+ghost use Rattle.lexer.specs.Tokens.{left};
+ghost use Rattle.syntax.specs.Wanted.{fits};
+ghost use Rattle.syntax.specs.Reads.{word, TakesSays};
+
+use lexer::reader::{Seen, peek};
 use lexer::token::Token;
 use parser::code::Span;
 
@@ -30,7 +28,7 @@ pub struct Wrong {
 impl Wanted {
     // Whether a token is what is wanted.
     pub fn is(self, t: Token) -> bool
-        ensures { λ r. ⌜ r ≡ fits self t ⌝ }
+        ensures { result ≡ fits self t }
     {
         match self {
             Wanted::Name => matches!(t, Token::Name),
@@ -45,16 +43,16 @@ impl Wanted {
 
 // What is next in the line that stands in the first words, from a place on.
 pub fn seen(words: &[u32], len: usize, at: usize) -> Seen
-    requires { ⌜ len ≤ length (now words) ⌝ }
-    ensures { λ r. ⌜ SeenSays (take len (now (words .entry))) «at» r ⌝ }
+    requires { len ≤ length words.now }
+    ensures { SeenSays (take len words.now) «at» result }
 {
     peek(&words[0..len], at)
 }
 
 // The next piece from a place on, if it is what is wanted.
 pub fn expect(words: &[u32], len: usize, at: usize, wanted: Wanted) -> Result<Span, Wrong>
-    requires { ⌜ len ≤ length (now words) ⌝ ∗ ⌜ len < 4294967296 ⌝ }
-    ensures { λ r. ⌜ TakesSays (take len (now (words .entry))) «at» (word wanted (left (take len (now (words .entry))) «at»)) r ⌝ }
+    requires { (len ≤ length words.now) × (len < 4294967296) }
+    ensures { TakesSays (take len words.now) «at» (word wanted (left (take len words.now) «at»)) result }
 {
     let next = seen(words, len, at);
     if wanted.is(next.token) {

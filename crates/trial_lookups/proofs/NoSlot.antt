@@ -1,11 +1,8 @@
 -- Where there are no slots, none is of any type.
-use mathlib.Core.Path.{_≡_, refl}
-use mathlib.Core.List.{[]}
+use Rattle.std.proofs.Common.{◌≡◌, ℕ, zero, suc, [], drop, refl}
 use mathlib.Core.Option.{none}
-use Prim.Native.Nat.{ℕ, zero, suc}
-use lib.ListN.{drop}
-use Rattle·semantics.specs.Walk.{first-slot}
+use Rattle.semantics.specs.Walk.{first_slot}
 
-pub no-slot : (i : ℕ) → none ≡ first-slot (drop i [])
-no-slot zero = refl
-no-slot (suc i) = refl
+pub no_slot : (i : ℕ) → none ≡ first_slot (drop i [])
+no_slot zero = refl
+no_slot (suc i) = refl

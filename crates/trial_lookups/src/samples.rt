@@ -1,21 +1,15 @@
 // Two lookups to try the checker with: one that knows of every name that it means nothing, and one that knows nothing yet.
-ghost use denote.Ref.{now};
-ghost use mathlib.Core.Path.{_≡_};
-ghost use lib.ListN.{length};
-ghost use Rattle·trial_lookups·specs.Samples.{«empty-book», «blank-book»};
-use checker::lookup::Lookup;
-use checker::lookup::Meaning;
-use checker::lookup::SigId;
-use checker::lookup::Sort;
-use checker::lookup::Type;
-use checker::lookup::TypeId;
+ghost use Rattle.std.specs.Prelude.{◌≡◌, length};
+ghost use Rattle.trial_lookups.specs.Samples.{empty_book, blank_book};
+
+use checker::lookup::{Lookup, Meaning, SigId, Sort, Type, TypeId};
 use checker::rows::Bounds;
 use parser::code::Span;
 
 pub struct Empty;
 
-pub impl Lookup for Empty as EmptyLookup {
-    ghost book = { λ _ _. «empty-book» };
+impl Lookup for Empty {
+    ghost book = { λ _ _. empty_book };
 
     fn here(&self, words: &[u32], b: Bounds, name: Span) -> Option<Meaning> {
         Some(Meaning::Unknown)
@@ -60,8 +54,8 @@ pub impl Lookup for Empty as EmptyLookup {
 
 pub struct Blank;
 
-pub impl Lookup for Blank as BlankLookup {
-    ghost book = { λ _ _. «blank-book» };
+impl Lookup for Blank {
+    ghost book = { λ _ _. blank_book };
 
     fn here(&self, words: &[u32], b: Bounds, name: Span) -> Option<Meaning> {
         None
@@ -106,23 +100,16 @@ pub impl Lookup for Blank as BlankLookup {
 
 #[cfg(test)]
 mod tests {
-    use super::Blank;
-    use super::BlankLookup;
-    use super::Empty;
-    use super::EmptyLookup;
-    use checker::check::Stop;
-    use checker::check::check;
+    use super::{Blank, Empty};
+    use checker::check::{Stop, check};
     use checker::lookup::Want;
     use checker::rows::Bounds;
-    use parser::code::Op;
-    use parser::code::Span;
-    use parser::code::emit;
+    use parser::code::{Op, Span, emit};
     use std::test::Fail;
-    use std::test::check_eq;
 
     // The line a(b) and its code.
     fn write(words: &mut [u32])
-        requires { ⌜ length (now words) ≡ 104 ⌝ }
+        requires { length words.old ≡ 104 }
     {
         words[0] = 97;
         words[1] = 40;
@@ -136,7 +123,7 @@ mod tests {
 
     // Two names that mean nothing, the call's first.
     #[test]
-    fn unknown_names_are_blamed() -> Result<(), Fail> {
+    fn unknown_names_are_blamed(rt: HostRuntime) {
         let mut words = [0; 104];
         write(&mut words);
         match check(
@@ -148,21 +135,21 @@ mod tests {
                 count: 4,
             },
         ) {
-            Ok(n) => check_eq(n, 2)?,
-            Err(_) => check_eq(0, 1)?,
+            Ok(n) => assert_eq!(rt; n, 2),
+            Err(_) => assert_eq!(rt; 0, 1),
         }
-        check_eq(words[24], 0)?;
-        check_eq(words[25], 0)?;
-        check_eq(words[26], 1)?;
-        check_eq(words[27], 2)?;
-        check_eq(words[28], 0)?;
-        check_eq(words[29], 2)?;
-        check_eq(words[30], 3)?;
-        check_eq(words[31], 2)
+        assert_eq!(rt; words[24], 0);
+        assert_eq!(rt; words[25], 0);
+        assert_eq!(rt; words[26], 1);
+        assert_eq!(rt; words[27], 2);
+        assert_eq!(rt; words[28], 0);
+        assert_eq!(rt; words[29], 2);
+        assert_eq!(rt; words[30], 3);
+        assert_eq!(rt; words[31], 2);
     }
 
     #[test]
-    fn the_first_name_has_to_be_known() -> Result<(), Fail> {
+    fn the_first_name_has_to_be_known(rt: HostRuntime) -> Result<(), Fail> {
         let mut words = [0; 104];
         write(&mut words);
         match check(
@@ -174,8 +161,14 @@ mod tests {
                 count: 4,
             },
         ) {
-            Err(Stop::Needs(Want::Here(s))) => check_eq(s.to, 1),
-            _ => check_eq(0, 1),
+            Err(Stop::Needs(Want::Here(s))) => {
+                assert_eq!(rt; s.to, 1);
+                Ok(())
+            },
+            _ => {
+                assert_eq!(rt; 0, 1);
+                Ok(())
+            },
         }
     }
 }

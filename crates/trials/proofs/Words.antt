@@ -1,17 +1,11 @@
 -- One word written at the front of what is lent.
-use mathlib.Core.Path.{_≡_, refl, sym, ap, _∙_}
-use mathlib.Core.Bool.{Bool, true, false}
-use mathlib.Core.List.{List, [], _∷_}
-use Prim.Native.Nat.{ℕ, _+_, _<_}
-use native.Mathlib.Omega.{arith}
-use lib.Dec.{eqb}
-use lib.ListN.{length, getD, take, drop, set}
-use Rattle·std.proofs.shelf.Lists.{drop-set}
-use Rattle·std.proofs.shelf.Tests.{eqb-true}
-use Rattle·base.specs.Base.{pick}
+use Rattle.std.proofs.Common.{◌≡◌, ℕ, ◌+◌, ◌<◌, Bool, true, false, eqb, List, [], ◌∷◌, length, get_or, take, drop, set, sym, refl, ap, ◌∙◌, arith}
+use Rattle.std.proofs.lemmas.List.{drop-set}
+use Rattle.std.proofs.lemmas.Bool.{eqb-true}
+use Rattle.base.specs.Base.{pick}
 
-pub one-word : (ws : List ℕ) (at1 v : ℕ) → at1 < length ws → take 1 (drop at1 (set ws at1 v)) ≡ v ∷ []
-one-word ws at1 v h = ap (take 1) (drop-set ws at1 v h) ∙ none (drop (at1 + 1) ws)
+pub one_word : (ws : List ℕ) (at1 v : ℕ) → at1 < length ws → take 1 (drop at1 (set ws at1 v)) ≡ v ∷ []
+one_word ws at1 v h = ap (take 1) (drop-set ws at1 v h) ∙ none (drop (at1 + 1) ws)
   where
     none : (xs : List ℕ) → take 1 (v ∷ xs) ≡ v ∷ []
     none [] = refl

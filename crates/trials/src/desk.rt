@@ -1,14 +1,8 @@
 // The row in which rules are tried: cells, a memo, and room to work in.
-ghost use denote.Ref.{now};
-ghost use mathlib.Core.Path.{_≡_};
-ghost use Prim.Native.Nat.{ℕ, _<_};
-ghost use lib.Dec.{T};
-ghost use lib.ListN.{length, getD, take, drop};
-ghost use Rattle·trials·specs.Desk.{entries-of, Ready, SaidSays};
-use crate::small::Cells;
-use crate::small::CellsInputs;
-use crate::small::Small;
-use crate::small::SmallRules;
+ghost use Rattle.std.specs.Prelude.{◌≡◌, ℕ, ◌<◌, T, length, take, drop, slice_index};
+ghost use Rattle.trials.specs.Desk.{entries_of, Ready, SaidSays};
+
+use crate::small::{Cells, Small};
 use driver::bring::bring;
 use engine::key::Key;
 use memo::log::create;
@@ -31,7 +25,7 @@ pub struct Said {
 
 // A row made ready, with nothing kept, if it is long enough and not too long.
 pub fn clear_desk(row: &mut [u32]) -> bool
-    ensures { λ r. ⌜ (T r → Ready (now (row .exit))) ⌝ }
+    ensures { T result → Ready row.new }
 {
     if row.len() < MEMO {
         return false;
@@ -44,17 +38,17 @@ pub fn clear_desk(row: &mut [u32]) -> bool
 
 // A cell's word.
 pub fn set_cell(row: &mut [u32], a: usize, v: u32)
-    requires { ⌜ Ready (now row) ⌝ ∗ ⌜ a < 16 ⌝ }
-    ensures ready { λ _. ⌜ Ready (now (row .exit)) ⌝ }
-    ensures entries { λ _. ⌜ entries-of (now (row .exit)) ≡ entries-of (now (row .entry)) ⌝ }
+    requires { (Ready row.old) × (a < 16) }
+    ensures ready { Ready row.new }
+    ensures entries { entries_of row.new ≡ entries_of row.old }
 {
     row[a] = v;
 }
 
 // All cells emptied.
 pub fn empty_cells(row: &mut [u32])
-    requires { ⌜ Ready (now row) ⌝ }
-    ensures { λ _. ⌜ Ready (now (row .exit)) ⌝ }
+    requires { Ready row.old }
+    ensures { Ready row.new }
 {
     for a in 0..CELLS {
         set_cell(row, a, 0);
@@ -63,7 +57,7 @@ pub fn empty_cells(row: &mut [u32])
 
 // The first word of an answer of n words, 0 if it has none.
 fn first_word(row: &[u32], n: usize) -> u32
-    ensures { λ r. ⌜ r ≡ getD (take n (drop 8208 (now (row .entry)))) 0 0 ⌝ }
+    ensures { result ≡ slice_index (take n (drop 8208 row.now)) 0 }
 {
     if n == 0 || row.len() <= MEMO {
         return 0;
@@ -73,9 +67,9 @@ fn first_word(row: &[u32], n: usize) -> u32
 
 // A key asked: its answer is what it's worth by the cells of now.
 pub fn ask(row: &mut [u32], k: &Key) -> Option<Said>
-    requires { ⌜ Ready (now row) ⌝ }
-    ensures ready { λ _. ⌜ Ready (now (row .exit)) ⌝ }
-    ensures says { λ r. ⌜ SaidSays (now (row .entry)) (now (k .entry)) r ⌝ }
+    requires { Ready row.old }
+    ensures ready { Ready row.new }
+    ensures says { SaidSays row.old k.now result }
 {
     let mut rules = Small { told: 0 };
     let Some(words) = bring(row, CELLS, MEMO, &mut rules, &Cells {}, k) else {

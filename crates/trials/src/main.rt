@@ -4,25 +4,14 @@ mod desk;
 mod scenes;
 mod small;
 
-ghost use denote.Ref.{now};
-ghost use Rattle·trials·specs.Desk.{Ready};
-use desk::Said;
-use desk::ask;
-use desk::clear_desk;
-use desk::empty_cells;
-use desk::set_cell;
+ghost use Rattle.trials.specs.Desk.{Ready};
+
+use anyhow::anyhow;
+use desk::{Said, ask, clear_desk, empty_cells, set_cell};
 use engine::key::Key;
-use scenes::Step;
-use scenes::changes_back;
-use scenes::comes_to_be;
-use scenes::diamond;
-use scenes::early_cutoff;
-use scenes::no_room;
-use scenes::taken_up_again;
-use std::error::AnyError;
+use scenes::{Step, changes_back, comes_to_be, diamond, early_cutoff, no_room, taken_up_again};
 use std::io;
-use std::io::BufWriter;
-use std::io::Write;
+use std::io::{BufWriter, Write};
 
 // The words of the row.
 const WORDS: usize = 200000;
@@ -43,8 +32,8 @@ fn show<W: Write>(k: &Key, said: Option<Said>, out: &mut W) -> io::Result<()> {
 
 // A step done.
 fn make<W: Write>(row: &mut [u32], step: Step, out: &mut W) -> io::Result<()>
-    requires { ⌜ Ready (now row) ⌝ }
-    ensures { λ _. ⌜ Ready (now (row .exit)) ⌝ }
+    requires { Ready row.old }
+    ensures { Ready row.new }
 {
     match step {
         Step::Put(a, v) => {
@@ -62,16 +51,11 @@ fn make<W: Write>(row: &mut [u32], step: Step, out: &mut W) -> io::Result<()>
 }
 
 // A trial: its name, and its steps, from a row with nothing kept and all cells empty.
-fn play<W: Write>(
-    row: &mut [u32],
-    name: &str,
-    steps: &[Step],
-    out: &mut W,
-) -> Result<(), AnyError> {
+fn play<W: Write>(row: &mut [u32], name: &str, steps: &[Step], out: &mut W) -> anyhow::Result<()> {
     out.write_all(name.as_bytes())?;
     out.write_all(b"\n")?;
     if !clear_desk(row) {
-        return Err("the row is too short".into());
+        return Err(anyhow!("the row is too short"));
     }
     empty_cells(row);
     for s in steps {
@@ -80,8 +64,8 @@ fn play<W: Write>(
     Ok(())
 }
 
-fn run(rt: &LibcRuntime) -> Result<(), AnyError> {
-    let mut out = BufWriter::new(rt.stdout());
+fn run(rt: &HostRuntime) -> anyhow::Result<()> {
+    let mut out = BufWriter::new(rt.alloc(), rt.stdout())?;
     let mut row = vec![in rt.alloc(); 0u32; WORDS]?;
     let row = &mut row[..];
     play(row, "an answer where none was", &comes_to_be(), &mut out)?;
@@ -99,6 +83,6 @@ fn run(rt: &LibcRuntime) -> Result<(), AnyError> {
     Ok(())
 }
 
-fn main(rt: LibcRuntime) -> Result<(), AnyError> {
-    rt.report(run(&rt))
+fn main(rt: HostRuntime) -> anyhow::Result<()> {
+    run(&rt)
 }

@@ -1,13 +1,9 @@
 // Small rules to try the engine on, and the cells that they ask for. The table of keys stands in specs/Small.
-ghost use denote.Ref.{now};
-ghost use mathlib.Core.Path.{_≡_};
-ghost use Prim.Native.Nat.{ℕ, _+_, _*_, _%_, _<_, _≤_};
-ghost use lib.ListN.{length, getD, take};
-ghost use Rattle·trials·specs.Small.{small, cells, got-at, sum, below, step, rank-of, NextSays};
+ghost use Rattle.std.specs.Prelude.{◌≡◌, ℕ, ◌+◌, ◌*◌, ◌%◌, ◌<◌, ◌≤◌, length, take, slice_index};
+ghost use Rattle.trials.specs.Small.{small, cells, got_at, sum, below, step, rank_of, NextSays};
+
 use engine::key::Key;
-use engine::rules::Inputs;
-use engine::rules::Rules;
-use engine::rules::Turn;
+use engine::rules::{Inputs, Rules, Turn};
 
 // What a rule does next: it asks, or it is done, with one word.
 #[derive(Clone, Copy)]
@@ -18,7 +14,7 @@ pub enum Next {
 
 // The answer to the i-th question.
 fn got_at(row: &[u32], i: usize) -> u32
-    ensures { λ r. ⌜ r ≡ got-at (now (row .entry)) i ⌝ }
+    ensures { result ≡ got_at row.now i }
 {
     if i < row.len() / 2 {
         return row[2 * i + 1];
@@ -28,8 +24,8 @@ fn got_at(row: &[u32], i: usize) -> u32
 
 // The answers added up.
 fn add_up(row: &[u32], n: usize) -> u32
-    ensures is { λ r. ⌜ r ≡ sum n (now (row .entry)) ⌝ }
-    ensures small1 { λ r. ⌜ r < 65536 ⌝ }
+    ensures is { result ≡ sum n row.now }
+    ensures small1 { result < 65536 }
 {
     let mut s: u64 = 0;
     for i in 0..n {
@@ -40,7 +36,7 @@ fn add_up(row: &[u32], n: usize) -> u32
 
 // A cell, or whether it is above 9.
 fn layer(k: &Key, row: &[u32], n: usize) -> Next
-    ensures { λ r. ⌜ NextSays (step 1 (now (k .entry) .a) (now (k .entry) .b) n (now (row .entry))) r ⌝ }
+    ensures { NextSays (step 1 k.now.a k.now.b n row.now) result }
 {
     if n == 0 {
         return Next::Ask(Key {
@@ -58,7 +54,7 @@ fn layer(k: &Key, row: &[u32], n: usize) -> Next
 
 // How many of the first cells are above 9.
 fn count(k: &Key, row: &[u32], n: usize) -> Next
-    ensures { λ r. ⌜ NextSays (step 2 (now (k .entry) .a) (now (k .entry) .b) n (now (row .entry))) r ⌝ }
+    ensures { NextSays (step 2 k.now.a k.now.b n row.now) result }
 {
     if n < k.a as usize {
         return Next::Ask(Key {
@@ -72,7 +68,7 @@ fn count(k: &Key, row: &[u32], n: usize) -> Next
 
 // One of the two keys below a level.
 fn lower(l: u32, s: u32) -> Key
-    ensures { λ r. ⌜ r ≡ below l s ⌝ }
+    ensures { result ≡ below l s }
 {
     if l == 0 {
         return Key {
@@ -90,7 +86,7 @@ fn lower(l: u32, s: u32) -> Key
 
 // A level of a diamond.
 fn level(k: &Key, row: &[u32], n: usize) -> Next
-    ensures { λ r. ⌜ NextSays (step 3 (now (k .entry) .a) (now (k .entry) .b) n (now (row .entry))) r ⌝ }
+    ensures { NextSays (step 3 k.now.a k.now.b n row.now) result }
 {
     if n < 2 {
         return Next::Ask(lower(k.a % 64, n as u32));
@@ -100,7 +96,7 @@ fn level(k: &Key, row: &[u32], n: usize) -> Next
 
 // One cell or another, by a third.
 fn switch(row: &[u32], n: usize) -> Next
-    ensures { λ r. ⌜ ((a b : ℕ) → NextSays (step 4 a b n (now (row .entry))) r) ⌝ }
+    ensures { (a b : ℕ) → NextSays (step 4 a b n row.now) result }
 {
     if n == 0 {
         return Next::Ask(Key {
@@ -118,7 +114,7 @@ fn switch(row: &[u32], n: usize) -> Next
 
 // What the rule of a key does next, told n answers in a row.
 fn does(k: &Key, row: &[u32], n: usize) -> Next
-    ensures { λ r. ⌜ NextSays (step (now (k .entry) .kind) (now (k .entry) .a) (now (k .entry) .b) n (now (row .entry))) r ⌝ }
+    ensures { NextSays (step k.now.kind k.now.a k.now.b n row.now) result }
 {
     match k.kind {
         1 => layer(k, row, n),
@@ -131,7 +127,7 @@ fn does(k: &Key, row: &[u32], n: usize) -> Next
 
 // A key's rank.
 fn rank_of(k: &Key) -> u32
-    ensures { λ r. ⌜ r ≡ rank-of (now (k .entry) .kind) (now (k .entry) .a) ⌝ }
+    ensures { result ≡ rank_of k.now.kind k.now.a }
 {
     match k.kind {
         1 => 1,
@@ -147,10 +143,10 @@ pub struct Small {
     pub told: u64,
 }
 
-pub impl Rules for Small as SmallRules {
+impl Rules for Small {
     ghost book = { λ s. small };
 
-    ghost runs = { λ s. s .told };
+    ghost runs = { λ s. s.told };
 
     fn rank(&self, k: &Key) -> u32 {
         rank_of(k)
@@ -181,8 +177,8 @@ pub struct Cells {}
 
 // The word of a cell, of which there are known.
 fn cell(words: &[u32], known: usize, a: usize) -> u32
-    requires { ⌜ known ≤ length (now words) ⌝ }
-    ensures { λ r. ⌜ r ≡ getD (take known (now (words .entry))) a 0 ⌝ }
+    requires { known ≤ length words.now }
+    ensures { result ≡ slice_index (take known words.now) a }
 {
     if a < known {
         return words[a];
@@ -190,7 +186,7 @@ fn cell(words: &[u32], known: usize, a: usize) -> u32
     0
 }
 
-pub impl Inputs for Cells as CellsInputs {
+impl Inputs for Cells {
     ghost given = { λ s. cells };
 
     fn get(&self, k: &Key, words: &mut [u32], known: usize, at: usize) -> Option<usize> {

@@ -3,25 +3,17 @@
 // All that it says of a line comes from the library; here is only what reads and prints.
 mod show;
 
-ghost use Prim.Native.Nat.{_+_, _*_, _≤_};
-ghost use lib.Dec.{T};
-ghost use lib.ListN.{length};
+ghost use Rattle.std.specs.Prelude.{◌+◌, ◌*◌, ◌≤◌, T, length};
+
+use anyhow::anyhow;
 use checker::check::check;
 use checker::rows::Bounds;
-use parser::code::Op;
-use parser::code::emit;
+use parser::code::{Op, emit};
 use show::show_said;
-use std::alloc::AllocError;
-use std::alloc::Global;
-use std::error::AnyError;
-use std::io::BufRead;
-use std::io::BufReader;
-use std::io::BufWriter;
-use std::io::Write;
-use syntax::read::Refusal;
-use syntax::read::read_line;
+use std::alloc::{AllocError, Global};
+use std::io::{BufRead, BufReader, BufWriter, Write};
+use syntax::read::{Refusal, read_line};
 use world::world::World;
-use world::world::WorldLookup;
 
 // A row of words with a line at its front, and behind it room for its code and for what is said of it.
 fn row_of(heap: Global, line: &[u8]) -> Result<Vec<u32>, AllocError> {
@@ -35,7 +27,7 @@ fn row_of(heap: Global, line: &[u8]) -> Result<Vec<u32>, AllocError> {
 
 // Whether so many operations can be checked in a row, behind a line of that length.
 fn enough(row: &[u32], len: usize, count: usize) -> bool
-    ensures { λ r. ⌜ (T r → len + 25 * count ≤ length (now (row .entry))) ⌝ }
+    ensures { T result → len + 25 * count ≤ length row.now }
 {
     len <= row.len() && count <= (row.len() - len) / 25
 }
@@ -56,12 +48,12 @@ fn code_of(row: &mut [u32], len: usize) -> Option<usize> {
 }
 
 // What is said of the line at a row's front.
-fn show_line<W: Write>(row: &mut [u32], len: usize, out: &mut W) -> Result<(), AnyError> {
+fn show_line<W: Write>(row: &mut [u32], len: usize, out: &mut W) -> anyhow::Result<()> {
     let Some(count) = code_of(row, len) else {
-        return Err("a line is too long".into());
+        return Err(anyhow!("a line is too long"));
     };
     if !enough(row, len, count) {
-        return Err("a line is too long".into());
+        return Err(anyhow!("a line is too long"));
     }
     match check(
         &World,
@@ -73,14 +65,14 @@ fn show_line<W: Write>(row: &mut [u32], len: usize, out: &mut W) -> Result<(), A
         },
     ) {
         Ok(events) => show_said(&row[len + 5 * count..], events, out)?,
-        Err(_) => return Err("not all is known".into()),
+        Err(_) => return Err(anyhow!("not all is known")),
     }
     Ok(())
 }
 
-fn run(rt: &LibcRuntime) -> Result<(), AnyError> {
-    let mut out = BufWriter::new(rt.stdout());
-    let lines = BufReader::new(rt.stdin()).split(rt.alloc(), b'\n');
+fn run(rt: &HostRuntime) -> anyhow::Result<()> {
+    let mut out = BufWriter::new(rt.alloc(), rt.stdout())?;
+    let lines = BufReader::new(rt.alloc(), rt.stdin())?.split(rt.alloc(), b'\n');
     for (number, line) in (1..u64::MAX).zip(lines) {
         let line = line?;
         let mut row = row_of(rt.alloc(), &line[..])?;
@@ -92,6 +84,6 @@ fn run(rt: &LibcRuntime) -> Result<(), AnyError> {
     Ok(())
 }
 
-fn main(rt: LibcRuntime) -> Result<(), AnyError> {
-    rt.report(run(&rt))
+fn main(rt: HostRuntime) -> anyhow::Result<()> {
+    run(&rt)
 }

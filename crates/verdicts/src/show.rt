@@ -1,6 +1,5 @@
 // What was said of a line, in words: its faults; the types of its parts; where its names go.
-use checker::lookup::Type;
-use checker::lookup::TypeId;
+use checker::lookup::{Type, TypeId};
 use checker::packed::unpack;
 use std::io;
 use std::io::Write;

@@ -5,147 +5,142 @@
 --   more   use deep | kind port2 = Oslo, Sund | rec hold = v s, back hold | def k() num = 1 | kind k = Lone
 --   deep   kind s = S
 -- A line is looked at as if it stood at the end of x.
-use mathlib.Core.Bool.{Bool, true, false, _&&_}
-use mathlib.Core.List.{List, [], _∷_}
-use mathlib.Core.Option.{Option, some, none}
-use Prim.Native.Nat.{ℕ}
-use lib.Dec.{eqb}
-use Rattle·std.specs.declared.option.Option.{Option as Maybe}
-use Rattle·std.specs.declared.option.Option.the-variants.{Some, None}
-use Rattle·base.specs.Base.{pick, Word, same}
-use Rattle·semantics.specs.Names.{Ty, t-num, t-bool, t-of, Slot, Sig, s-unknown, s-several}
-use Rattle·semantics.specs.Walk.{Query, q-here, q-there, q-file, q-before, k-sig, k-yes, Fetch, has}
-use Rattle·checker.specs.declared.lookup.Sort.{Sort}
-use Rattle·checker.specs.declared.lookup.Sort.the-variants.{Kind, Const, Rec, Def}
-use Rattle·checker.specs.declared.lookup.«Type».{«Type» as Typ}
-use Rattle·checker.specs.declared.lookup.«Type».the-variants.{None as Untyped, Num, Bool as Truth, Of}
-use Rattle·checker.specs.declared.lookup.Meaning.{Meaning}
-use Rattle·checker.specs.declared.lookup.Meaning.the-variants.{Found, Unknown, Several}
-use Rattle·checker.specs.Rows.{Origin, Declared, Book, ty-of, sig-is}
-use Rattle·world·specs.declared.cards.Card.{Card}
+use Rattle.std.specs.Prelude.{ℕ, Bool, true, false, ◌&&◌, List, [], ◌∷◌, Some, None, Option as Maybe, ◌==◌}
+use Rattle.std.proofs.Math.Option.{Option, some, none}
+use Rattle.base.specs.Base.{pick, Word, same}
+use Rattle.semantics.specs.Names.{Ty, t_num, t_bool, t_of, Slot, Sig, s_unknown, s_several}
+use Rattle.semantics.specs.Walk.{Query, q_here, q_there, q_file, q_before, k_sig, k_yes, Fetch, has}
+use Rattle.checker.specs.declared.lookup.Sort.{Sort}
+use Rattle.checker.specs.declared.lookup.Sort.TheVariants.{Kind, Const, Rec, Def}
+use Rattle.checker.specs.declared.lookup.«Type».{«Type» as Typ}
+use Rattle.checker.specs.declared.lookup.«Type».TheVariants.{None as Untyped, Num, Bool as Truth, Of}
+use Rattle.checker.specs.declared.lookup.Meaning.{Meaning}
+use Rattle.checker.specs.declared.lookup.Meaning.TheVariants.{Found, Unknown, Several}
+use Rattle.checker.specs.Rows.{Origin, Declared, Book, ty_of, sig_is}
+use Rattle.world.specs.declared.cards.Card.{Card}
 
 -- names of files, and names
-abbrev pub f-x : Word
-f-x = 120 ∷ []
+abbrev pub f_x : Word
+f_x = 120 ∷ []
 
-abbrev pub f-ports : Word
-f-ports = 112 ∷ 111 ∷ 114 ∷ 116 ∷ 115 ∷ []
+abbrev pub f_ports : Word
+f_ports = 112 ∷ 111 ∷ 114 ∷ 116 ∷ 115 ∷ []
 
-abbrev pub f-more : Word
-f-more = 109 ∷ 111 ∷ 114 ∷ 101 ∷ []
+abbrev pub f_more : Word
+f_more = 109 ∷ 111 ∷ 114 ∷ 101 ∷ []
 
-abbrev pub f-deep : Word
-f-deep = 100 ∷ 101 ∷ 101 ∷ 112 ∷ []
+abbrev pub f_deep : Word
+f_deep = 100 ∷ 101 ∷ 101 ∷ 112 ∷ []
 
-abbrev pub n-base : Word
-n-base = 98 ∷ 97 ∷ 115 ∷ 101 ∷ []
+abbrev pub n_base : Word
+n_base = 98 ∷ 97 ∷ 115 ∷ 101 ∷ []
 
-abbrev pub n-flag : Word
-n-flag = 102 ∷ 108 ∷ 97 ∷ 103 ∷ []
+abbrev pub n_flag : Word
+n_flag = 102 ∷ 108 ∷ 97 ∷ 103 ∷ []
 
-abbrev pub n-port2 : Word
-n-port2 = 112 ∷ 111 ∷ 114 ∷ 116 ∷ 50 ∷ []
+abbrev pub n_port2 : Word
+n_port2 = 112 ∷ 111 ∷ 114 ∷ 116 ∷ 50 ∷ []
 
-abbrev pub n-Mine : Word
-n-Mine = 77 ∷ 105 ∷ 110 ∷ 101 ∷ []
+abbrev pub n_Mine : Word
+n_Mine = 77 ∷ 105 ∷ 110 ∷ 101 ∷ []
 
-abbrev pub n-odd : Word
-n-odd = 111 ∷ 100 ∷ 100 ∷ []
+abbrev pub n_odd : Word
+n_odd = 111 ∷ 100 ∷ 100 ∷ []
 
-abbrev pub n-lost : Word
-n-lost = 108 ∷ 111 ∷ 115 ∷ 116 ∷ []
+abbrev pub n_lost : Word
+n_lost = 108 ∷ 111 ∷ 115 ∷ 116 ∷ []
 
-abbrev pub n-add : Word
-n-add = 97 ∷ 100 ∷ 100 ∷ []
+abbrev pub n_add : Word
+n_add = 97 ∷ 100 ∷ 100 ∷ []
 
-abbrev pub n-port : Word
-n-port = 112 ∷ 111 ∷ 114 ∷ 116 ∷ []
+abbrev pub n_port : Word
+n_port = 112 ∷ 111 ∷ 114 ∷ 116 ∷ []
 
-abbrev pub n-Vik : Word
-n-Vik = 86 ∷ 105 ∷ 107 ∷ []
+abbrev pub n_Vik : Word
+n_Vik = 86 ∷ 105 ∷ 107 ∷ []
 
-abbrev pub n-Sund : Word
-n-Sund = 83 ∷ 117 ∷ 110 ∷ 100 ∷ []
+abbrev pub n_Sund : Word
+n_Sund = 83 ∷ 117 ∷ 110 ∷ 100 ∷ []
 
-abbrev pub n-ticket : Word
-n-ticket = 116 ∷ 105 ∷ 99 ∷ 107 ∷ 101 ∷ 116 ∷ []
+abbrev pub n_ticket : Word
+n_ticket = 116 ∷ 105 ∷ 99 ∷ 107 ∷ 101 ∷ 116 ∷ []
 
-abbrev pub n-Oslo : Word
-n-Oslo = 79 ∷ 115 ∷ 108 ∷ 111 ∷ []
+abbrev pub n_Oslo : Word
+n_Oslo = 79 ∷ 115 ∷ 108 ∷ 111 ∷ []
 
-abbrev pub n-hold : Word
-n-hold = 104 ∷ 111 ∷ 108 ∷ 100 ∷ []
+abbrev pub n_hold : Word
+n_hold = 104 ∷ 111 ∷ 108 ∷ 100 ∷ []
 
-abbrev pub n-k : Word
-n-k = 107 ∷ []
+abbrev pub n_k : Word
+n_k = 107 ∷ []
 
-abbrev pub n-Lone : Word
-n-Lone = 76 ∷ 111 ∷ 110 ∷ 101 ∷ []
+abbrev pub n_Lone : Word
+n_Lone = 76 ∷ 111 ∷ 110 ∷ 101 ∷ []
 
-abbrev pub n-s : Word
-n-s = 115 ∷ []
+abbrev pub n_s : Word
+n_s = 115 ∷ []
 
-abbrev pub n-p : Word
-n-p = 112 ∷ []
+abbrev pub n_p : Word
+n_p = 112 ∷ []
 
-abbrev pub n-bad : Word
-n-bad = 98 ∷ 97 ∷ 100 ∷ []
+abbrev pub n_bad : Word
+n_bad = 98 ∷ 97 ∷ 100 ∷ []
 
-abbrev pub n-n : Word
-n-n = 110 ∷ []
+abbrev pub n_n : Word
+n_n = 110 ∷ []
 
-abbrev pub n-a : Word
-n-a = 97 ∷ []
+abbrev pub n_a : Word
+n_a = 97 ∷ []
 
-abbrev pub n-b : Word
-n-b = 98 ∷ []
+abbrev pub n_b : Word
+n_b = 98 ∷ []
 
-abbrev pub n-start : Word
-n-start = 115 ∷ 116 ∷ 97 ∷ 114 ∷ 116 ∷ []
+abbrev pub n_start : Word
+n_start = 115 ∷ 116 ∷ 97 ∷ 114 ∷ 116 ∷ []
 
-abbrev pub n-end : Word
-n-end = 101 ∷ 110 ∷ 100 ∷ []
+abbrev pub n_end : Word
+n_end = 101 ∷ 110 ∷ 100 ∷ []
 
-abbrev pub n-age : Word
-n-age = 97 ∷ 103 ∷ 101 ∷ []
+abbrev pub n_age : Word
+n_age = 97 ∷ 103 ∷ 101 ∷ []
 
-abbrev pub n-v : Word
-n-v = 118 ∷ []
+abbrev pub n_v : Word
+n_v = 118 ∷ []
 
-abbrev pub n-back : Word
-n-back = 98 ∷ 97 ∷ 99 ∷ 107 ∷ []
+abbrev pub n_back : Word
+n_back = 98 ∷ 97 ∷ 99 ∷ 107 ∷ []
 
 -- the types by number; the last for all that are left
 abbrev pub origin : Word → Word → Origin
 origin f n = record { file = f; name = n }
 
-abbrev pub o-port : Origin
-o-port = origin f-ports n-port
+abbrev pub o_port : Origin
+o_port = origin f_ports n_port
 
-abbrev pub o-ticket : Origin
-o-ticket = origin f-ports n-ticket
+abbrev pub o_ticket : Origin
+o_ticket = origin f_ports n_ticket
 
-abbrev pub o-own : Origin
-o-own = origin f-x n-port2
+abbrev pub o_own : Origin
+o_own = origin f_x n_port2
 
-abbrev pub o-odd : Origin
-o-odd = origin f-x n-odd
+abbrev pub o_odd : Origin
+o_odd = origin f_x n_odd
 
-abbrev pub o-far : Origin
-o-far = origin f-more n-port2
+abbrev pub o_far : Origin
+o_far = origin f_more n_port2
 
-abbrev pub o-hold : Origin
-o-hold = origin f-more n-hold
+abbrev pub o_hold : Origin
+o_hold = origin f_more n_hold
 
-abbrev pub o-deep : Origin
-o-deep = origin f-deep n-s
+abbrev pub o_deep : Origin
+o_deep = origin f_deep n_s
 
-abbrev pub type-of : ℕ → Origin
-type-of n = pick (eqb n 0) o-port (pick (eqb n 1) o-ticket (pick (eqb n 2) o-own (pick (eqb n 3) o-odd (pick (eqb n 4) o-far (pick (eqb n 5) o-hold o-deep)))))
+abbrev pub type_of : ℕ → Origin
+type_of n = pick (n == 0) o_port (pick (n == 1) o_ticket (pick (n == 2) o_own (pick (n == 3) o_odd (pick (n == 4) o_far (pick (n == 5) o_hold o_deep)))))
 
 -- types that are the same have the same number here
-abbrev pub tag-of : ℕ → ℕ
-tag-of n = pick (eqb n 0) 0 (pick (eqb n 1) 1 (pick (eqb n 2) 2 (pick (eqb n 3) 3 (pick (eqb n 4) 4 (pick (eqb n 5) 5 6)))))
+abbrev pub tag_of : ℕ → ℕ
+tag_of n = pick (n == 0) 0 (pick (n == 1) 1 (pick (n == 2) 2 (pick (n == 3) 3 (pick (n == 4) 4 (pick (n == 5) 5 6)))))
 
 -- what is declared by number; the last for all that are left
 abbrev pub slot1 : Word → Option Ty → Slot
@@ -154,56 +149,56 @@ slot1 n o = record { name = n; ty = o }
 abbrev pub declares : Word → Word → Sort → List Slot → Option Ty → Declared
 declares f n s ss o = record { file = f; name = n; sort = s; slots = ss; result = o }
 
-abbrev pub d-base : Declared
-d-base = declares f-x n-base Def (slot1 n-p (some (ty-of o-port)) ∷ []) (some t-num)
+abbrev pub d_base : Declared
+d_base = declares f_x n_base Def (slot1 n_p (some (ty_of o_port)) ∷ []) (some t_num)
 
-abbrev pub d-flag : Declared
-d-flag = declares f-x n-flag Def [] (some t-bool)
+abbrev pub d_flag : Declared
+d_flag = declares f_x n_flag Def [] (some t_bool)
 
-abbrev pub d-own : Declared
-d-own = declares f-x n-port2 Kind [] none
+abbrev pub d_own : Declared
+d_own = declares f_x n_port2 Kind [] none
 
-abbrev pub d-Mine : Declared
-d-Mine = declares f-x n-Mine Const [] (some (ty-of o-own))
+abbrev pub d_Mine : Declared
+d_Mine = declares f_x n_Mine Const [] (some (ty_of o_own))
 
-abbrev pub d-odd : Declared
-d-odd = declares f-x n-odd Rec (slot1 n-bad none ∷ slot1 n-n (some t-num) ∷ slot1 n-n (some t-bool) ∷ []) none
+abbrev pub d_odd : Declared
+d_odd = declares f_x n_odd Rec (slot1 n_bad none ∷ slot1 n_n (some t_num) ∷ slot1 n_n (some t_bool) ∷ []) none
 
-abbrev pub d-lost : Declared
-d-lost = declares f-x n-lost Def (slot1 n-a none ∷ []) none
+abbrev pub d_lost : Declared
+d_lost = declares f_x n_lost Def (slot1 n_a none ∷ []) none
 
-abbrev pub d-add : Declared
-d-add = declares f-x n-add Def (slot1 n-a (some t-num) ∷ slot1 n-b (some t-num) ∷ []) (some t-num)
+abbrev pub d_add : Declared
+d_add = declares f_x n_add Def (slot1 n_a (some t_num) ∷ slot1 n_b (some t_num) ∷ []) (some t_num)
 
-abbrev pub d-port : Declared
-d-port = declares f-ports n-port Kind [] none
+abbrev pub d_port : Declared
+d_port = declares f_ports n_port Kind [] none
 
-abbrev pub d-Vik : Declared
-d-Vik = declares f-ports n-Vik Const [] (some (ty-of o-port))
+abbrev pub d_Vik : Declared
+d_Vik = declares f_ports n_Vik Const [] (some (ty_of o_port))
 
-abbrev pub d-ticket : Declared
-d-ticket = declares f-ports n-ticket Rec (slot1 n-start (some (ty-of o-port)) ∷ slot1 n-end (some (ty-of o-port)) ∷ slot1 n-age (some t-num) ∷ []) none
+abbrev pub d_ticket : Declared
+d_ticket = declares f_ports n_ticket Rec (slot1 n_start (some (ty_of o_port)) ∷ slot1 n_end (some (ty_of o_port)) ∷ slot1 n_age (some t_num) ∷ []) none
 
-abbrev pub d-far : Declared
-d-far = declares f-more n-port2 Kind [] none
+abbrev pub d_far : Declared
+d_far = declares f_more n_port2 Kind [] none
 
-abbrev pub d-Oslo : Declared
-d-Oslo = declares f-more n-Oslo Const [] (some (ty-of o-far))
+abbrev pub d_Oslo : Declared
+d_Oslo = declares f_more n_Oslo Const [] (some (ty_of o_far))
 
-abbrev pub d-hold : Declared
-d-hold = declares f-more n-hold Rec (slot1 n-v (some (ty-of o-deep)) ∷ slot1 n-back (some (ty-of o-hold)) ∷ []) none
+abbrev pub d_hold : Declared
+d_hold = declares f_more n_hold Rec (slot1 n_v (some (ty_of o_deep)) ∷ slot1 n_back (some (ty_of o_hold)) ∷ []) none
 
-abbrev pub d-k : Declared
-d-k = declares f-more n-k Def [] (some t-num)
+abbrev pub d_k : Declared
+d_k = declares f_more n_k Def [] (some t_num)
 
-abbrev pub d-Lone : Declared
-d-Lone = declares f-more n-Lone Const [] none
+abbrev pub d_Lone : Declared
+d_Lone = declares f_more n_Lone Const [] none
 
-abbrev pub d-s : Declared
-d-s = declares f-deep n-s Kind [] none
+abbrev pub d_s : Declared
+d_s = declares f_deep n_s Kind [] none
 
-abbrev pub sig-of : ℕ → Declared
-sig-of n = pick (eqb n 0) d-base (pick (eqb n 1) d-flag (pick (eqb n 2) d-own (pick (eqb n 3) d-Mine (pick (eqb n 4) d-odd (pick (eqb n 5) d-lost (pick (eqb n 6) d-add (pick (eqb n 7) d-port (pick (eqb n 8) d-Vik (pick (eqb n 9) d-ticket (pick (eqb n 10) d-far (pick (eqb n 11) d-Oslo (pick (eqb n 12) d-hold (pick (eqb n 13) d-k (pick (eqb n 14) d-Lone d-s))))))))))))))
+abbrev pub sig_of : ℕ → Declared
+sig_of n = pick (n == 0) d_base (pick (n == 1) d_flag (pick (n == 2) d_own (pick (n == 3) d_Mine (pick (n == 4) d_odd (pick (n == 5) d_lost (pick (n == 6) d_add (pick (n == 7) d_port (pick (n == 8) d_Vik (pick (n == 9) d_ticket (pick (n == 10) d_far (pick (n == 11) d_Oslo (pick (n == 12) d_hold (pick (n == 13) d_k (pick (n == 14) d_Lone d_s))))))))))))))
 
 -- the same on cards: the sort, the result, how many slots there are, and the types of three
 abbrev pub own : ℕ → Typ
@@ -212,60 +207,60 @@ own n = Of (record { 0 = n })
 abbrev pub card1 : Sort → Typ → ℕ → Typ → Typ → Typ → Card
 card1 s r n a b c = record { sort = s; result = r; slots = n; a = a; b = b; c = c }
 
-abbrev pub row-of : Card → List Typ
-row-of x = x .a ∷ x .b ∷ x .c ∷ []
+abbrev pub row_of : Card → List Typ
+row_of x = x.a ∷ x.b ∷ x.c ∷ []
 
-abbrev pub card-of : ℕ → Card
-card-of n = pick (eqb n 0) (card1 Def Num 1 (own 0) Untyped Untyped) (pick (eqb n 1) (card1 Def Truth 0 Untyped Untyped Untyped) (pick (eqb n 2) (card1 Kind (own 2) 0 Untyped Untyped Untyped) (pick (eqb n 3) (card1 Const (own 2) 0 Untyped Untyped Untyped) (pick (eqb n 4) (card1 Rec (own 3) 3 Untyped Num Truth) (pick (eqb n 5) (card1 Def Untyped 1 Untyped Untyped Untyped) (pick (eqb n 6) (card1 Def Num 2 Num Num Untyped) (pick (eqb n 7) (card1 Kind (own 0) 0 Untyped Untyped Untyped) (pick (eqb n 8) (card1 Const (own 0) 0 Untyped Untyped Untyped) (pick (eqb n 9) (card1 Rec (own 1) 3 (own 0) (own 0) Num) (pick (eqb n 10) (card1 Kind (own 4) 0 Untyped Untyped Untyped) (pick (eqb n 11) (card1 Const (own 4) 0 Untyped Untyped Untyped) (pick (eqb n 12) (card1 Rec (own 5) 2 (own 6) (own 5) Untyped) (pick (eqb n 13) (card1 Def Num 0 Untyped Untyped Untyped) (pick (eqb n 14) (card1 Const Untyped 0 Untyped Untyped Untyped) (card1 Kind (own 6) 0 Untyped Untyped Untyped)))))))))))))))
+abbrev pub card_of : ℕ → Card
+card_of n = pick (n == 0) (card1 Def Num 1 (own 0) Untyped Untyped) (pick (n == 1) (card1 Def Truth 0 Untyped Untyped Untyped) (pick (n == 2) (card1 Kind (own 2) 0 Untyped Untyped Untyped) (pick (n == 3) (card1 Const (own 2) 0 Untyped Untyped Untyped) (pick (n == 4) (card1 Rec (own 3) 3 Untyped Num Truth) (pick (n == 5) (card1 Def Untyped 1 Untyped Untyped Untyped) (pick (n == 6) (card1 Def Num 2 Num Num Untyped) (pick (n == 7) (card1 Kind (own 0) 0 Untyped Untyped Untyped) (pick (n == 8) (card1 Const (own 0) 0 Untyped Untyped Untyped) (pick (n == 9) (card1 Rec (own 1) 3 (own 0) (own 0) Num) (pick (n == 10) (card1 Kind (own 4) 0 Untyped Untyped Untyped) (pick (n == 11) (card1 Const (own 4) 0 Untyped Untyped Untyped) (pick (n == 12) (card1 Rec (own 5) 2 (own 6) (own 5) Untyped) (pick (n == 13) (card1 Def Num 0 Untyped Untyped Untyped) (pick (n == 14) (card1 Const Untyped 0 Untyped Untyped Untyped) (card1 Kind (own 6) 0 Untyped Untyped Untyped)))))))))))))))
 
 -- the type of the first slot of that name
-abbrev pub found-in : List Slot → Word → List Typ → Maybe Typ
-found-in [] w row = None
-found-in (s ∷ ss) w [] = None
-found-in (s ∷ ss) w (r ∷ row) = pick (same (s .name) w) (Some r) (found-in ss w row)
+abbrev pub found_in : List Slot → Word → List Typ → Maybe Typ
+found_in [] w row = None
+found_in (s ∷ ss) w [] = None
+found_in (s ∷ ss) w (r ∷ row) = pick (same s.name w) (Some r) (found_in ss w row)
 
 -- what names mean
-abbrev pub sig-no : ℕ → Meaning
-sig-no n = Found (record { 0 = n })
+abbrev pub sig_no : ℕ → Meaning
+sig_no n = Found (record { 0 = n })
 
-abbrev pub own-is : Word → Maybe ℕ
-own-is w = pick (same w n-base) (Some 0) (pick (same w n-flag) (Some 1) (pick (same w n-port2) (Some 2) (pick (same w n-Mine) (Some 3) (pick (same w n-odd) (Some 4) (pick (same w n-lost) (Some 5) (pick (same w n-add) (Some 6) None))))))
+abbrev pub own_is : Word → Maybe ℕ
+own_is w = pick (same w n_base) (Some 0) (pick (same w n_flag) (Some 1) (pick (same w n_port2) (Some 2) (pick (same w n_Mine) (Some 3) (pick (same w n_odd) (Some 4) (pick (same w n_lost) (Some 5) (pick (same w n_add) (Some 6) None))))))
 
-abbrev pub used-is : Word → Meaning
-used-is w = pick (same w n-port) (sig-no 7) (pick (same w n-Vik) (sig-no 8) (pick (same w n-Sund) Several (pick (same w n-ticket) (sig-no 9) (pick (same w n-Oslo) (sig-no 11) (pick (same w n-hold) (sig-no 12) (pick (same w n-k) (sig-no 13) (pick (same w n-Lone) (sig-no 14) Unknown)))))))
+abbrev pub used_is : Word → Meaning
+used_is w = pick (same w n_port) (sig_no 7) (pick (same w n_Vik) (sig_no 8) (pick (same w n_Sund) Several (pick (same w n_ticket) (sig_no 9) (pick (same w n_Oslo) (sig_no 11) (pick (same w n_hold) (sig_no 12) (pick (same w n_k) (sig_no 13) (pick (same w n_Lone) (sig_no 14) Unknown)))))))
 
-abbrev pub own-or : Maybe ℕ → Meaning → Meaning
-own-or (Some n) m = sig-no n
-own-or None m = m
+abbrev pub own_or : Maybe ℕ → Meaning → Meaning
+own_or (Some n) m = sig_no n
+own_or None m = m
 
-abbrev pub here-is : Word → Meaning
-here-is w = own-or (own-is w) (used-is w)
+abbrev pub here_is : Word → Meaning
+here_is w = own_or (own_is w) (used_is w)
 
-abbrev pub there-is : Word → Word → Meaning
-there-is f n = pick (same f f-ports && same n n-port) (sig-no 7) (pick (same f f-ports && same n n-ticket) (sig-no 9) (pick (same f f-x && same n n-port2) (sig-no 2) (pick (same f f-x && same n n-odd) (sig-no 4) (pick (same f f-more && same n n-port2) (sig-no 10) (pick (same f f-more && same n n-hold) (sig-no 12) (pick (same f f-deep && same n n-s) (sig-no 15) Unknown))))))
+abbrev pub there_is : Word → Word → Meaning
+there_is f n = pick (same f f_ports && same n n_port) (sig_no 7) (pick (same f f_ports && same n n_ticket) (sig_no 9) (pick (same f f_x && same n n_port2) (sig_no 2) (pick (same f f_x && same n n_odd) (sig_no 4) (pick (same f f_more && same n n_port2) (sig_no 10) (pick (same f f_more && same n n_hold) (sig_no 12) (pick (same f f_deep && same n n_s) (sig_no 15) Unknown))))))
 
 -- the same, of a type by its number
-abbrev pub type-sig : ℕ → ℕ
-type-sig n = pick (eqb n 0) 7 (pick (eqb n 1) 9 (pick (eqb n 2) 2 (pick (eqb n 3) 4 (pick (eqb n 4) 10 (pick (eqb n 5) 12 15)))))
+abbrev pub type_sig : ℕ → ℕ
+type_sig n = pick (n == 0) 7 (pick (n == 1) 9 (pick (n == 2) 2 (pick (n == 3) 4 (pick (n == 4) 10 (pick (n == 5) 12 15)))))
 
-abbrev pub is-some : Maybe ℕ → Bool
-is-some (Some n) = true
-is-some None = false
+abbrev pub is_some : Maybe ℕ → Bool
+is_some (Some n) = true
+is_some None = false
 
-abbrev pub file-is : Word → Bool
-file-is w = pick (same w f-ports) true (pick (same w f-more) true (same w f-deep))
+abbrev pub file_is : Word → Bool
+file_is w = pick (same w f_ports) true (pick (same w f_more) true (same w f_deep))
 
 -- the book
 abbrev pub meant : Meaning → Sig
-meant (Found s) = sig-is (sig-of (s .0))
-meant Unknown = s-unknown
-meant Several = s-several
+meant (Found s) = sig_is (sig_of s.0)
+meant Unknown = s_unknown
+meant Several = s_several
 
 abbrev pub known : Query → Fetch Query
-known (q-here w) = has (k-sig (meant (here-is w)))
-known (q-there f n) = has (k-sig (meant (there-is f n)))
-known (q-file w) = has (k-yes (file-is w))
-known (q-before w) = has (k-yes (is-some (own-is w)))
+known (q_here w) = has (k_sig (meant (here_is w)))
+known (q_there f n) = has (k_sig (meant (there_is f n)))
+known (q_file w) = has (k_yes (file_is w))
+known (q_before w) = has (k_yes (is_some (own_is w)))
 
-abbrev pub small-world : Book
-small-world = record { types = type-of; sigs = sig-of; knows = known }
+abbrev pub small_world : Book
+small_world = record { types = type_of; sigs = sig_of; knows = known }

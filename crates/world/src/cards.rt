@@ -1,11 +1,9 @@
 // What is declared in the small world, by numbers.
-ghost use mathlib.Core.Path.{_≡_};
-ghost use lib.ListN.{getD};
-ghost use Rattle·checker.specs.declared.lookup.«Type».the-variants.{None as Untyped};
-ghost use Rattle·world·specs.World.{«card-of», «row-of», «tag-of», «type-sig»};
-use checker::lookup::Sort;
-use checker::lookup::Type;
-use checker::lookup::TypeId;
+ghost use Rattle.std.specs.Prelude.{◌≡◌, slice_index_or};
+ghost use Rattle.checker.specs.declared.lookup.«Type».TheVariants.{None as Untyped};
+ghost use Rattle.world.specs.World.{card_of, row_of, tag_of, type_sig};
+
+use checker::lookup::{Sort, Type, TypeId};
 
 // Its sort; its type; how many fields or parameters it has, and the types of the first three.
 #[derive(Clone, Copy)]
@@ -35,7 +33,7 @@ pub const DEEP: Type = Type::Of(TypeId(6));
 
 // In order: base, flag, port2, Mine, odd, lost and add of x; port, Vik and ticket of ports; port2, Oslo, hold, k and Lone of more; s of deep.
 pub fn card_of(sig: u32) -> Card
-    ensures { λ r. ⌜ r ≡ «card-of» sig ⌝ }
+    ensures { result ≡ card_of sig }
 {
     match sig {
         0 => Card {
@@ -171,7 +169,7 @@ pub fn card_of(sig: u32) -> Card
 
 // The type of a slot.
 pub fn slot_type(x: Card, index: u32) -> Type
-    ensures { λ r. ⌜ r ≡ getD («row-of» x) index Untyped ⌝ }
+    ensures { result ≡ slice_index_or (row_of x) index Untyped }
 {
     match index {
         0 => x.a,
@@ -183,7 +181,7 @@ pub fn slot_type(x: Card, index: u32) -> Type
 
 // Types that are the same have the same number here.
 pub fn tag(ty: u32) -> u32
-    ensures { λ r. ⌜ r ≡ «tag-of» ty ⌝ }
+    ensures { result ≡ tag_of ty }
 {
     match ty {
         0 => 0,
@@ -198,7 +196,7 @@ pub fn tag(ty: u32) -> u32
 
 // What a type is, by its number.
 pub fn type_sig(ty: u32) -> u32
-    ensures { λ r. ⌜ r ≡ «type-sig» ty ⌝ }
+    ensures { result ≡ type_sig ty }
 {
     match ty {
         0 => 7,

@@ -1,19 +1,15 @@
 // Names of the small world, by their bytes.
-ghost use mathlib.Core.Path.{_≡_};
-ghost use Rattle·base.specs.Base.{pick};
-ghost use Rattle·std.specs.declared.option.Option.the-variants.{Some};
-ghost use Rattle·world·specs.World.{«own-is», «used-is», «here-is», «file-is», «found-in», «sig-of», «card-of», «row-of», «d-odd», «d-add», «d-ticket», «d-hold»};
-use crate::cards::DEEP;
-use crate::cards::HOLD;
-use crate::cards::PORT;
+ghost use Rattle.std.specs.Prelude.{◌≡◌, Some};
+ghost use Rattle.base.specs.Base.{pick};
+ghost use Rattle.world.specs.World.{own_is, used_is, here_is, file_is, found_in, sig_of, card_of, row_of, d_odd, d_add, d_ticket, d_hold};
+
+use crate::cards::{DEEP, HOLD, PORT};
 use base::same_word;
-use checker::lookup::Meaning;
-use checker::lookup::SigId;
-use checker::lookup::Type;
+use checker::lookup::{Meaning, SigId, Type};
 
 // What x itself declares.
 pub fn own_name(word: &[u32]) -> Option<u32>
-    ensures { λ r. ⌜ r ≡ «own-is» (now (word .entry)) ⌝ }
+    ensures { result ≡ own_is word.now }
 {
     match word {
         w if same_word(w, &[98, 97, 115, 101]) => Some(0),
@@ -29,7 +25,7 @@ pub fn own_name(word: &[u32]) -> Option<u32>
 
 // What the files declare that x uses.
 fn used_name(word: &[u32]) -> Meaning
-    ensures { λ r. ⌜ r ≡ «used-is» (now (word .entry)) ⌝ }
+    ensures { result ≡ used_is word.now }
 {
     match word {
         w if same_word(w, &[112, 111, 114, 116]) => Meaning::Found(SigId(7)),
@@ -46,7 +42,7 @@ fn used_name(word: &[u32]) -> Meaning
 
 // What a name means in x.
 pub fn name_here(word: &[u32]) -> Meaning
-    ensures { λ r. ⌜ r ≡ «here-is» (now (word .entry)) ⌝ }
+    ensures { result ≡ here_is word.now }
 {
     match own_name(word) {
         Some(n) => Meaning::Found(SigId(n)),
@@ -56,7 +52,7 @@ pub fn name_here(word: &[u32]) -> Meaning
 
 // Whether there is another file than x of that name.
 pub fn is_file(word: &[u32]) -> bool
-    ensures { λ r. ⌜ r ≡ «file-is» (now (word .entry)) ⌝ }
+    ensures { result ≡ file_is word.now }
 {
     match word {
         w if same_word(w, &[112, 111, 114, 116, 115]) => true,
@@ -66,14 +62,14 @@ pub fn is_file(word: &[u32]) -> bool
 }
 
 fn or_if(b: bool, ty: Type, rest: Option<Type>) -> Option<Type>
-    ensures { λ r. ⌜ r ≡ pick b (Some ty) rest ⌝ }
+    ensures { result ≡ pick b (Some ty) rest }
 {
     if b { Some(ty) } else { rest }
 }
 
 // The types of fields and parameters by their names: of each thing, and of a thing by its number.
 fn in_odd(w: &[u32]) -> Option<Type>
-    ensures { λ r. ⌜ r ≡ «found-in» («d-odd» .slots) (now (w .entry)) («row-of» («card-of» 4)) ⌝ }
+    ensures { result ≡ found_in d_odd.slots w.now (row_of (card_of 4)) }
 {
     or_if(
         same_word(&[98, 97, 100], w),
@@ -87,7 +83,7 @@ fn in_odd(w: &[u32]) -> Option<Type>
 }
 
 fn in_add(w: &[u32]) -> Option<Type>
-    ensures { λ r. ⌜ r ≡ «found-in» («d-add» .slots) (now (w .entry)) («row-of» («card-of» 6)) ⌝ }
+    ensures { result ≡ found_in d_add.slots w.now (row_of (card_of 6)) }
 {
     or_if(
         same_word(&[97], w),
@@ -97,7 +93,7 @@ fn in_add(w: &[u32]) -> Option<Type>
 }
 
 fn in_ticket(w: &[u32]) -> Option<Type>
-    ensures { λ r. ⌜ r ≡ «found-in» («d-ticket» .slots) (now (w .entry)) («row-of» («card-of» 9)) ⌝ }
+    ensures { result ≡ found_in d_ticket.slots w.now (row_of (card_of 9)) }
 {
     or_if(
         same_word(&[115, 116, 97, 114, 116], w),
@@ -111,7 +107,7 @@ fn in_ticket(w: &[u32]) -> Option<Type>
 }
 
 fn in_hold(w: &[u32]) -> Option<Type>
-    ensures { λ r. ⌜ r ≡ «found-in» («d-hold» .slots) (now (w .entry)) («row-of» («card-of» 12)) ⌝ }
+    ensures { result ≡ found_in d_hold.slots w.now (row_of (card_of 12)) }
 {
     or_if(
         same_word(&[118], w),
@@ -121,7 +117,7 @@ fn in_hold(w: &[u32]) -> Option<Type>
 }
 
 pub fn field_type(sig: u32, w: &[u32]) -> Option<Type>
-    ensures { λ r. ⌜ r ≡ «found-in» («sig-of» sig .slots) (now (w .entry)) («row-of» («card-of» sig)) ⌝ }
+    ensures { result ≡ found_in (sig_of sig).slots w.now (row_of (card_of sig)) }
 {
     match sig {
         0 => or_if(same_word(&[112], w), PORT, None),

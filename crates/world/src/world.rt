@@ -1,57 +1,43 @@
 // The small world as a lookup that knows all: a line is looked at as if it stood at the end of the file x.
-ghost use denote.Ref.{now};
-ghost use mathlib.Core.Path.{_≡_};
-ghost use lib.ListN.{length, drop};
-ghost use Rattle·semantics.specs.Walk.{«first-slot»};
-ghost use Rattle·checker.specs.Rows.{typed, Small, SomeSmall, «result-is», FieldSays};
-ghost use Rattle·world·specs.World.{«small-world», «sig-of»};
-use crate::cards::Card;
-use crate::cards::card_of;
-use crate::cards::slot_type;
-use crate::cards::tag;
-use crate::cards::type_sig;
-use crate::names::field_type;
-use crate::names::is_file;
-use crate::names::name_here;
-use crate::names::own_name;
-use checker::lookup::Lookup;
-use checker::lookup::Meaning;
-use checker::lookup::SigId;
-use checker::lookup::Sort;
-use checker::lookup::Type;
-use checker::lookup::TypeId;
-use checker::rows::Bounds;
-use checker::rows::word_of;
+ghost use Rattle.std.specs.Prelude.{◌≡◌, length, drop};
+ghost use Rattle.semantics.specs.Walk.{first_slot};
+ghost use Rattle.checker.specs.Rows.{typed, Small, SomeSmall, result_is, FieldSays};
+ghost use Rattle.world.specs.World.{small_world, sig_of};
+
+use crate::cards::{Card, card_of, slot_type, tag, type_sig};
+use crate::names::{field_type, is_file, name_here, own_name};
+use checker::lookup::{Lookup, Meaning, SigId, Sort, Type, TypeId};
+use checker::rows::{Bounds, word_of};
 use parser::code::Span;
 
 pub struct World;
 
 // What is on a card is so: its sort, its type and how many slots it has; the type of a slot, and of the first one of a name.
 fn card(sig: SigId) -> Card
-    ensures sort { λ r. ⌜ r .sort ≡ «sig-of» (sig .0) .sort ⌝ }
-    ensures small { λ r. ⌜ Small (r .result) ⌝ }
-    ensures result { λ r. ⌜ typed «small-world» (r .result) ≡ «result-is» («sig-of» (sig .0)) ⌝ }
-    ensures slots { λ r. ⌜ r .slots ≡ length («sig-of» (sig .0) .slots) ⌝ }
+    ensures sort { result.sort ≡ (sig_of sig.0).sort }
+    ensures small { Small result.result }
+    ensures result { typed small_world result.result ≡ result_is (sig_of sig.0) }
+    ensures slots { result.slots ≡ length (sig_of sig.0).slots }
 {
     card_of(sig.0)
 }
 
 fn slot_of(sig: SigId, index: u32) -> Type
-    ensures small { λ r. ⌜ Small r ⌝ }
-    ensures is { λ r. ⌜ typed «small-world» r ≡ «first-slot» (drop index («sig-of» (sig .0) .slots)) ⌝ }
+    ensures small { Small result }
+    ensures is { typed small_world result ≡ first_slot (drop index (sig_of sig.0).slots) }
 {
     slot_type(card_of(sig.0), index)
 }
 
 fn field_of(sig: SigId, word: &[u32]) -> Option<Type>
-    ensures small { λ r. ⌜ SomeSmall r ⌝ }
-    ensures is { λ r. ⌜ FieldSays «small-world» («sig-of» (sig .0) .slots) (now (word .entry)) r ⌝ }
+    ensures small { SomeSmall result }
+    ensures is { FieldSays small_world (sig_of sig.0).slots word.now result }
 {
     field_type(sig.0, word)
 }
 
-pub impl Lookup for World as WorldLookup {
-    ghost book = { λ s ws. «small-world» };
+impl Lookup for World {
+    ghost book = { λ s ws. small_world };
 
     fn here(&self, words: &[u32], b: Bounds, name: Span) -> Option<Meaning> {
         Some(name_here(word_of(words, b, name)))

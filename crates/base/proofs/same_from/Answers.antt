@@ -1,20 +1,17 @@
-use mathlib.Core.Path.{sym, _∙_}
-use native.Mathlib.Omega.{arith}
-use lib.ListN.{length-drop, drop}
-use borrow.Author.Needs.{needs}
-use Rattle·base·proofs.Same.{other-length, same-more, same-stops, same-end}
-use Rattle·base·proofs.same_from.Needs as need
+use Rattle.std.proofs.Common.{drop, sym, ◌∙◌, arith, length-drop, rules}
+use Rattle.base.proofs.Same.{other_length, same_more, same_stops, same_end}
+use Rattle.base.proofs.same_from.Goals as goal
 
-pub returns-then-a-b : need.returns-then-a-b
+pub returns-then-a-b : goal.returns-then-a-b
 returns-then-a-b c =
-    other-length (drop (c .args .from) (c .args .a .now)) (drop (c .args .from) (c .args .b .now))
-    (λ e. omega (arith, length-drop (c .args .from) (c .args .a .now), length-drop (c .args .from) (c .args .b .now), e))
+    other_length (drop c.args.from c.args.a.now) (drop c.args.from c.args.b.now)
+    (λ e. omega (arith, length-drop c.args.from c.args.a.now, length-drop c.args.from c.args.b.now, e))
 
-pub returns-then-a-i : need.returns-then-a-i
-returns-then-a-i c = sym (c .loop-i .inv .1 ∙ same-stops (c .args .a .now) (c .args .b .now) (c .loop-i .i) (search needs) (search needs) (search needs))
+pub returns-then-a-i : goal.returns-then-a-i
+returns-then-a-i c = sym (c.loop-i.invariant.1 ∙ same_stops c.args.a.now c.args.b.now c.loop-i.i (search rules) (search rules) (search rules))
 
-pub loop-i-again : need.loop-i-again
-loop-i-again c = (search needs, c .loop-i .inv .1 ∙ same-more (c .args .a .now) (c .args .b .now) (c .loop-i .i) (search needs) (search needs) (search needs))
+pub loop-i-preserved : goal.loop-i-preserved
+loop-i-preserved c = (search rules, c.loop-i.invariant.1 ∙ same_more c.args.a.now c.args.b.now c.loop-i.i (search rules) (search rules) (search rules))
 
-pub returns : need.returns
-returns c = sym (c .loop-i .inv .1 ∙ same-end (c .args .a .now) (c .args .b .now) (c .loop-i .i) (search needs) (search needs))
+pub returns : goal.returns
+returns c = sym (c.loop-i.invariant.1 ∙ same_end c.args.a.now c.args.b.now c.loop-i.i (search rules) (search rules))

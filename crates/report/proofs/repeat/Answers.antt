@@ -1,6 +1,6 @@
-use Rattle·std.specs.Of.Vec.{vec-items}
-use Rattle·report·proofs.Shown.{byte-more}
-use Rattle·report·proofs.repeat.Needs as need
+use Rattle.std.proofs.Common.{vec_items}
+use Rattle.report.proofs.Shown.{byte_more}
+use Rattle.report.proofs.repeat.Goals as goal
 
-pub loop-again : need.loop-again
-loop-again c = byte-more (vec-items (c .loop .out)) (vec-items (c .args .out .now)) (vec-items (c .push .last .self)) (c .loop .counter) (c .args .byte) (c .loop .inv) (c .in-Continue-push .ensures tt .items)
+pub loop-preserved : goal.loop-preserved
+loop-preserved c = byte_more (vec_items c.loop.out) (vec_items c.args.out.now) (vec_items c.push.new.self) c.loop.counter c.args.byte c.loop.invariant c.in-ok-push.ensures.items

@@ -1,9 +1,9 @@
-use Rattle·std.specs.Of.Vec.{vec-items}
-use Rattle·report·proofs.Shown.{one-more, whole}
-use Rattle·report·proofs.show_line.Needs as need
+use Rattle.std.proofs.Common.{vec_items}
+use Rattle.report.proofs.Shown.{one_more, whole}
+use Rattle.report.proofs.show_line.Goals as goal
 
-pub loop-c-again : need.loop-c-again
-loop-c-again c = one-more (vec-items (c .loop-c .out)) (vec-items (c .args .out .now)) (c .args .line .now) (vec-items (c .push .last .self)) (c .loop-c .c-index) (c .sign-of .result) (c .loop-c-test .taken) (c .loop-c .inv) (c .sign-of .ensures) (c .in-Continue-push .ensures tt .items)
+pub loop-c-preserved : goal.loop-c-preserved
+loop-c-preserved c = one_more (vec_items c.loop-c.out) (vec_items c.args.out.now) c.args.line.now (vec_items c.push.new.self) c.loop-c.c-index c.sign-of.result c.loop-c-test.true c.loop-c.invariant c.sign-of.ensures c.in-ok-push.ensures.items
 
-pub returns : need.returns
-returns c = whole (vec-items (c .loop-c .out)) (vec-items (c .args .out .now)) (c .args .line .now) (c .loop-c .c-index) (c .loop-c-test .left) (c .loop-c .inv)
+pub returns : goal.returns
+returns c = whole (vec_items c.loop-c.out) (vec_items c.args.out.now) c.args.line.now c.loop-c.c-index c.loop-c-test.false c.loop-c.invariant

@@ -1,9 +1,6 @@
-use mathlib.Core.Path.{_≡_, ap, _∙_}
-use mathlib.Core.List.{_++_, append-assoc}
-use lib.ListN.{replicate}
-use Rattle·std.specs.Of.Vec.{vec-items}
-use Rattle·report·proofs.show_mark.Needs as need
+use Rattle.std.proofs.Common.{◌≡◌, ◌++◌, replicate, vec_items, ap, ◌∙◌, append_assoc}
+use Rattle.report.proofs.show_mark.Goals as goal
 
-pub returns : need.returns
+pub returns : goal.returns
 returns c =
-    c .in-Continue-repeat-2 .ensures tt ∙ (λ j. c .in-Continue-repeat .ensures tt j ++ replicate (c .width .ensures j) 94) ∙ append-assoc (vec-items (c .args .out .now)) (replicate (c .args .from) 32) _
+    c.in-ok-repeat-2.ensures ∙ (λ j. c.in-ok-repeat.ensures j ++ replicate (c.width.ensures j) 94) ∙ append_assoc (vec_items c.args.out.now) (replicate c.args.from 32) _

@@ -1,40 +1,38 @@
-use mathlib.Core.Path.{_∙_, ap, sym, refl}
-use native.Mathlib.Omega.{arith}
-use lib.ListN.{take}
-use Rattle·parser.specs.Rows.{span-of}
-use Rattle·semantics.specs.Check.{of-record, typed}
-use Rattle·semantics.specs.Walk.{says, pop, fetch, asks-type, the-sig}
-use Rattle·checker·specs.Rows.{means}
-use Rattle·checker·proofs.calls.field.Needs as need
+use Rattle.std.proofs.Common.{take, sym, refl, ap, ◌∙◌, arith}
+use Rattle.parser.specs.Rows.{span_of}
+use Rattle.semantics.specs.Check.{of_record, typed}
+use Rattle.semantics.specs.Walk.{says, pop, fetch, asks_type, the_sig}
+use Rattle.checker.specs.Rows.{means}
+use Rattle.checker.proofs.calls.field.Goals as goal
 
-pub returns-in-Ok : need.returns-in-Ok
+pub returns-in-Ok : goal.returns-in-Ok
 returns-in-Ok g c =
-    let ws = c .args .words .now in
-    let b = c .args .b in
-    let K = g .L·Lookup .book (c .args .look .now) (take (b .base) ws) in
-    let line = take (b .len) ws in
-    let σ = means K line b (c .args .p) ws in
-    let t = span-of line (c .args .x) in
-    let e = c .newest-of .ensures K line in
-    let y = c .unpack .ensures K ∙ ap (λ f. f .ty) e in
-    let u = c .below .ensures .under K line b ws in
-    let h = c .in-Ok .ensures tt in
-    let a = c .newest-of .result .span .from in (
-      h .0,
-      sym (ap (λ o. fetch (K .knows) (asks-type o)) y) ∙ h .1,
+    let ws = c.args.words.now in
+    let b = c.args.b in
+    let K = g.L.Lookup.book c.args.look.now (take b.base ws) in
+    let line = take b.len ws in
+    let σ = means K line b c.args.p ws in
+    let t = span_of line c.args.x in
+    let e = c.newest-of.ensures K line in
+    let y = c.unpack.ensures K ∙ ap (λ f. f.ty) e in
+    let u = c.below.ensures.under K line b ws in
+    let h = c.in-Ok.ensures in
+    let a = c.newest-of.result.span.from in (
+      h.0,
+      sym (ap (λ o. fetch K.knows (asks_type o)) y) ∙ h.1,
       record {
-        before = c .tell-value .ensures .writes .before;
-        frame-more = omega (arith, c .tell-value .ensures .few, c .below .ensures .lower);
-        name-more = omega (arith, c .tell-value .ensures .few, c .below .ensures .lower);
-        said-more = omega (arith, c .tell-value .ensures .few, c .below .ensures .lower);
-        becomes = c .tell-value .ensures .writes .becomes K line
-            ∙ (λ i. says a (t .to) (typed a (t .to) (h .2 i)) (u i .stack) (u i .bound) (u i .out))
-            ∙ (λ i. says (e i .from) (t .to) (typed (e i .from) (t .to) (of-record (λ f n. the-sig (h .0)) t (y i))) (pop (σ .stack)) (σ .bound) (σ .out));
+        before = c.tell-value.ensures.writes.before;
+        frame_more = omega (arith, c.tell-value.ensures.few, c.below.ensures.lower);
+        name_more = omega (arith, c.tell-value.ensures.few, c.below.ensures.lower);
+        said_more = omega (arith, c.tell-value.ensures.few, c.below.ensures.lower);
+        becomes = c.tell-value.ensures.writes.becomes K line
+            ∙ (λ i. says a t.to (typed a t.to (h.2 i)) (u i).stack (u i).bound (u i).out)
+            ∙ (λ i. says (e i).from t.to (typed (e i).from t.to (of_record (λ f n. the_sig h.0) t (y i))) (pop σ.stack) σ.bound σ.out);
       },
     )
 
-pub returns-in-Err : need.returns-in-Err
+pub returns-in-Err : goal.returns-in-Err
 returns-in-Err g c =
-    let ws = c .args .words .now in
-    let K = g .L·Lookup .book (c .args .look .now) (take (c .args .b .base) ws) in
-    (sym (ap (λ o. fetch (K .knows) (asks-type o)) (c .unpack .ensures K ∙ ap (λ f. f .ty) (c .newest-of .ensures K (take (c .args .b .len) ws)))) ∙ c .in-Err .ensures tt, refl)
+    let ws = c.args.words.now in
+    let K = g.L.Lookup.book c.args.look.now (take c.args.b.base ws) in
+    (sym (ap (λ o. fetch K.knows (asks_type o)) (c.unpack.ensures K ∙ ap (λ f. f.ty) (c.newest-of.ensures K (take c.args.b.len ws)))) ∙ c.in-Err.ensures, refl)

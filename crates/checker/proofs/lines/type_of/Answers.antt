@@ -1,30 +1,29 @@
-use mathlib.Core.Path.{_∙_, ap, sym}
-use lib.ListN.{take}
-use Rattle·base.specs.Base.{same}
-use Rattle·lexer.specs.Words.{k-num, k-bool}
-use Rattle·parser.specs.Rows.{span-of}
-use Rattle·checker·specs.Rows.{meaning-is}
-use Rattle·checker·proofs.Asks.{type-num, type-bool, type-here}
-use Rattle·checker·proofs.lines.type_of.Needs as need
+use Rattle.std.proofs.Common.{take, sym, ap, ◌∙◌}
+use Rattle.base.specs.Base.{same}
+use Rattle.lexer.specs.Words.{k_num, k_bool}
+use Rattle.parser.specs.Rows.{span_of}
+use Rattle.checker.specs.Rows.{meaning_is}
+use Rattle.checker.proofs.Asks.{type_num, type_bool, type_here}
+use Rattle.checker.proofs.lines.type_of.Goals as goal
 
-pub returns-then-same-word : need.returns-then-same-word
+pub returns-then-same-word : goal.returns-then-same-word
 returns-then-same-word g c =
-    let ws = c .args .words .now in
-    let K = g .L·Lookup .book (c .args .look .now) (take (c .args .b .base) ws) in
-    let line = take (c .args .b .len) ws in
-    type-num K line (span-of line (c .args .s)) (sym (c .same-word .ensures ∙ ap (λ x. same x k-num) (c .word-of-word .ensures)) ∙ c .if-same-word .taken)
+    let ws = c.args.words.now in
+    let K = g.L.Lookup.book c.args.look.now (take c.args.b.base ws) in
+    let line = take c.args.b.len ws in
+    type_num K line (span_of line c.args.s) (sym (c.same-word.ensures ∙ ap (λ x. same x k_num) c.word-of-word.ensures) ∙ c.if-same-word.true)
 
-pub returns-then-same-word-2 : need.returns-then-same-word-2
+pub returns-then-same-word-2 : goal.returns-then-same-word-2
 returns-then-same-word-2 g c =
-    let ws = c .args .words .now in
-    let K = g .L·Lookup .book (c .args .look .now) (take (c .args .b .base) ws) in
-    let line = take (c .args .b .len) ws in
-    type-bool K line (span-of line (c .args .s)) (sym (c .same-word .ensures ∙ ap (λ x. same x k-num) (c .word-of-word .ensures)) ∙ c .if-same-word .left) (sym (c .same-word-2 .ensures ∙ ap (λ x. same x k-bool) (c .word-of-word .ensures)) ∙ c .if-same-word-2 .taken)
+    let ws = c.args.words.now in
+    let K = g.L.Lookup.book c.args.look.now (take c.args.b.base ws) in
+    let line = take c.args.b.len ws in
+    type_bool K line (span_of line c.args.s) (sym (c.same-word.ensures ∙ ap (λ x. same x k_num) c.word-of-word.ensures) ∙ c.if-same-word.false) (sym (c.same-word-2.ensures ∙ ap (λ x. same x k_bool) c.word-of-word.ensures) ∙ c.if-same-word-2.true)
 
-pub returns : need.returns
+pub returns : goal.returns
 returns g c =
-    let ws = c .args .words .now in
-    let K = g .L·Lookup .book (c .args .look .now) (take (c .args .b .base) ws) in
-    let line = take (c .args .b .len) ws in
-    let t = span-of line (c .args .s) in
-    type-here K line t (meaning-is K (c .in-Some .m)) (c .judge .result) (sym (c .same-word .ensures ∙ ap (λ x. same x k-num) (c .word-of-word .ensures)) ∙ c .if-same-word .left) (sym (c .same-word-2 .ensures ∙ ap (λ x. same x k-bool) (c .word-of-word .ensures)) ∙ c .if-same-word-2 .left) (c .in-Some .ensures tt) (c .judge .ensures t)
+    let ws = c.args.words.now in
+    let K = g.L.Lookup.book c.args.look.now (take c.args.b.base ws) in
+    let line = take c.args.b.len ws in
+    let t = span_of line c.args.s in
+    type_here K line t (meaning_is K c.in-Some.m) c.judge.result (sym (c.same-word.ensures ∙ ap (λ x. same x k_num) c.word-of-word.ensures) ∙ c.if-same-word.false) (sym (c.same-word-2.ensures ∙ ap (λ x. same x k_bool) c.word-of-word.ensures) ∙ c.if-same-word-2.false) c.in-Some.ensures (c.judge.ensures t)

@@ -1,9 +1,8 @@
-use mathlib.Core.Path.{refl, ap, _∙_}
-use native.Mathlib.Omega.{arith}
-use Rattle·semantics.specs.Walk.{state}
-use Rattle·checker·specs.Rows.{frames-in, names-in, said-in, frames-at, names-at, code-end}
-use Rattle·checker·proofs.Words.{below-is}
-use Rattle·checker·proofs.regions.below.Needs as need
+use Rattle.std.proofs.Common.{refl, ap, ◌∙◌, arith}
+use Rattle.semantics.specs.Walk.{state}
+use Rattle.checker.specs.Rows.{frames_in, names_in, said_in, frames_at, names_at, code_end}
+use Rattle.checker.proofs.Words.{below_is}
+use Rattle.checker.proofs.regions.below.Goals as goal
 
-pub returns : need.returns
-returns c = record { lower = (omega arith, (omega arith, (refl, refl))); under = λ k line b ws. ap (λ fs. state fs (names-in k line (names-at b) (c .args .p .names) ws) (said-in k line (code-end b) (c .args .p .events) ws)) (ap (λ h. frames-in k (frames-at b) h ws) (c .saturating-sub .ensures) ∙ below-is k (frames-at b) (c .args .p .height) ws) }
+pub returns : goal.returns
+returns c = record { lower = (omega arith, (omega arith, (refl, refl))); under = λ k line b ws. ap (λ fs. state fs (names_in k line (names_at b) c.args.p.names ws) (said_in k line (code_end b) c.args.p.events ws)) (ap (λ h. frames_in k (frames_at b) h ws) c.saturating-sub.ensures ∙ below_is k (frames_at b) c.args.p.height ws) }

@@ -1,38 +1,35 @@
-use mathlib.Core.Path.{_≡_, ap, sym, _∙_}
-use Prim.Native.Nat.{_-_}
-use native.Mathlib.Omega.{arith}
-use lib.ListN.{take}
-use Rattle·base.specs.Base.{same}
-use Rattle·parser.specs.Rows.{span-of}
-use Rattle·semantics.specs.Check.{find}
-use Rattle·checker·specs.Rows.{names-in, names-at, bound-is}
-use Rattle·checker·proofs.Words.{find-hit, find-miss}
-use Rattle·checker·proofs.regions.find.Needs as need
+use Rattle.std.proofs.Common.{◌≡◌, ◌-◌, take, sym, ap, ◌∙◌, arith}
+use Rattle.base.specs.Base.{same}
+use Rattle.parser.specs.Rows.{span_of}
+use Rattle.semantics.specs.Check.{find}
+use Rattle.checker.specs.Rows.{names_in, names_at, bound_is}
+use Rattle.checker.proofs.Words.{find_hit, find_miss}
+use Rattle.checker.proofs.regions.find.Goals as goal
 
-pub returns-then-same-word : need.returns-then-same-word
+pub returns-then-same-word : goal.returns-then-same-word
 returns-then-same-word c = λ k.
-    let ws = c .args .words .now in
-    let line = take (c .args .b .len) ws in
-    let w = span-of line (c .args .name) .w in
-    let x = bound-is k line (c .newest-name-x .result) in
-    let e : same (x .name .w) w ≡ c .same-word .result = sym (c .same-word .ensures ∙ (λ i. same (c .word-of .ensures i) (c .word-of-in-loop-n .ensures i))) in
-    c .loop-n .inv .1 k ∙ find-hit x _ (names-in k line (names-at (c .args .b)) (c .loop-n .n - 1) ws) w (c .newest-name-x .ensures k line) (e ∙ c .if-same-word .taken)
+    let ws = c.args.words.now in
+    let line = take c.args.b.len ws in
+    let w = (span_of line c.args.name).w in
+    let x = bound_is k line c.newest-name-x.result in
+    let e : same x.name.w w ≡ c.same-word.result = sym (c.same-word.ensures ∙ (λ i. same (c.word-of.ensures i) (c.word-of-in-loop-n.ensures i))) in
+    c.loop-n.invariant.1 k ∙ find_hit x _ (names_in k line (names_at c.args.b) (c.loop-n.n - 1) ws) w (c.newest-name-x.ensures k line) (e ∙ c.if-same-word.true)
 
-pub loop-n-again : need.loop-n-again
-loop-n-again c = (
-  omega (arith, c .loop-n .inv .0),
+pub loop-n-preserved : goal.loop-n-preserved
+loop-n-preserved c = (
+  omega (arith, c.loop-n.invariant.0),
   λ k.
-      let ws = c .args .words .now in
-      let line = take (c .args .b .len) ws in
-      let w = span-of line (c .args .name) .w in
-      let x = bound-is k line (c .newest-name-x .result) in
-      let e : same (x .name .w) w ≡ c .same-word .result = sym (c .same-word .ensures ∙ (λ i. same (c .word-of .ensures i) (c .word-of-in-loop-n .ensures i))) in
-      c .loop-n .inv .1 k ∙ find-miss x _ (names-in k line (names-at (c .args .b)) (c .loop-n .n - 1) ws) w (c .newest-name-x .ensures k line) (e ∙ c .if-same-word .left),
+      let ws = c.args.words.now in
+      let line = take c.args.b.len ws in
+      let w = (span_of line c.args.name).w in
+      let x = bound_is k line c.newest-name-x.result in
+      let e : same x.name.w w ≡ c.same-word.result = sym (c.same-word.ensures ∙ (λ i. same (c.word-of.ensures i) (c.word-of-in-loop-n.ensures i))) in
+      c.loop-n.invariant.1 k ∙ find_miss x _ (names_in k line (names_at c.args.b) (c.loop-n.n - 1) ws) w (c.newest-name-x.ensures k line) (e ∙ c.if-same-word.false),
 )
 
-pub returns : need.returns
+pub returns : goal.returns
 returns c = λ k.
-    let ws = c .args .words .now in
-    let line = take (c .args .b .len) ws in
-    let z : c .loop-n .n ≡ 0 = omega arith in
-    c .loop-n .inv .1 k ∙ ap (λ n. find (names-in k line (names-at (c .args .b)) n ws) (span-of line (c .args .name) .w)) z
+    let ws = c.args.words.now in
+    let line = take c.args.b.len ws in
+    let z : c.loop-n.n ≡ 0 = omega arith in
+    c.loop-n.invariant.1 k ∙ ap (λ n. find (names_in k line (names_at c.args.b) n ws) (span_of line c.args.name).w) z

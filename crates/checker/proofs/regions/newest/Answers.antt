@@ -1,7 +1,7 @@
-use native.Mathlib.Omega.{arith}
-use Rattle·checker·specs.Rows.{frames-at}
-use Rattle·checker·proofs.Words.{newest-is}
-use Rattle·checker·proofs.regions.newest.Needs as need
+use Rattle.std.proofs.Common.{arith}
+use Rattle.checker.specs.Rows.{frames_at}
+use Rattle.checker.proofs.Words.{newest_is}
+use Rattle.checker.proofs.regions.newest.Goals as goal
 
-pub returns : need.returns
-returns c = λ k line. newest-is k (frames-at (c .args .b)) (c .args .p .height) (c .args .words .now) (omega arith)
+pub returns : goal.returns
+returns c = λ k line. newest_is k (frames_at c.args.b) c.args.p.height c.args.words.now (omega arith)

@@ -1,5 +1,5 @@
-use Rattle·checker·proofs.Words.{putMid-pasted}
-use Rattle·checker·proofs.regions.put.Needs as need
+use Rattle.checker.proofs.Words.{putMid_pasted}
+use Rattle.checker.proofs.regions.put.Goals as goal
 
-pub returns : need.returns
-returns c = putMid-pasted (c .args .words .now) (c .copy-from-slice .last .self) (c .args .row .now) (c .args .at) (c .copy-from-slice .ensures .after)
+pub returns : goal.returns
+returns c = putMid_pasted c.args.words.now c.copy-from-slice.new.self c.args.row.now c.args.at c.copy-from-slice.ensures.after

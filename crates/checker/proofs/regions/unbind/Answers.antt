@@ -1,9 +1,8 @@
-use mathlib.Core.Path.{refl, ap, _∙_}
-use native.Mathlib.Omega.{arith}
-use Rattle·semantics.specs.Walk.{state}
-use Rattle·checker·specs.Rows.{frames-in, names-in, said-in, frames-at, names-at, code-end}
-use Rattle·checker·proofs.Words.{unbound-is}
-use Rattle·checker·proofs.regions.unbind.Needs as need
+use Rattle.std.proofs.Common.{refl, ap, ◌∙◌, arith}
+use Rattle.semantics.specs.Walk.{state}
+use Rattle.checker.specs.Rows.{frames_in, names_in, said_in, frames_at, names_at, code_end}
+use Rattle.checker.proofs.Words.{unbound_is}
+use Rattle.checker.proofs.regions.unbind.Goals as goal
 
-pub returns : need.returns
-returns c = record { lower = (refl, (omega arith, refl)); under = λ k line b ws. ap (λ ns. state (frames-in k (frames-at b) (c .args .p .height) ws) ns (said-in k line (code-end b) (c .args .p .events) ws)) (ap (λ h. names-in k line (names-at b) h ws) (c .saturating-sub .ensures) ∙ unbound-is k line (names-at b) (c .args .p .names) ws) }
+pub returns : goal.returns
+returns c = record { lower = (refl, (omega arith, refl)); under = λ k line b ws. ap (λ ns. state (frames_in k (frames_at b) c.args.p.height ws) ns (said_in k line (code_end b) c.args.p.events ws)) (ap (λ h. names_in k line (names_at b) h ws) c.saturating-sub.ensures ∙ unbound_is k line (names_at b) c.args.p.names ws) }

@@ -1,7 +1,6 @@
-use mathlib.Core.Path.{_∙_, ap}
-use Prim.Native.Nat.{max}
-use Rattle·checker·proofs.Words.{word-is}
-use Rattle·checker·proofs.rows.part_of.Needs as need
+use Rattle.std.proofs.Common.{max, ap, ◌∙◌}
+use Rattle.checker.proofs.Words.{word_is}
+use Rattle.checker.proofs.rows.part_of.Goals as goal
 
-pub returns : need.returns
-returns c = word-is (c .args .words .now) (c .args .s .from) (c .args .s .to) (c .args .len) (c .min-from .result) (c .max-to .result) (c .pre) (c .min-from .ensures) (c .max-to .ensures ∙ ap (λ x. max x (c .min-from .result)) (c .min .ensures))
+pub returns : goal.returns
+returns c = word_is c.args.words.now c.args.s.from c.args.s.to c.args.len c.min-from.result c.max-to.result c.requires c.min-from.ensures (c.max-to.ensures ∙ ap (λ x. max x c.min-from.result) c.min.ensures)

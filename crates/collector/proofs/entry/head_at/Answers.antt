@@ -1,90 +1,87 @@
 -- The i-th of what the line declares.
-use mathlib.Core.Path.{_≡_, refl, sym, ap, subst, _∙_}
-use mathlib.Core.List.{List}
-use Prim.Native.Nat.{ℕ, min, _≤_, _<_}
-use native.Mathlib.Omega.{arith}
-use lib.ListN.{length, take}
-use denote.Ref.{now}
-use Rattle·std.specs.Finite.{nth}
-use Rattle·std.specs.declared.option.Option.the-variants.{Some}
-use Rattle·std.proofs.shelf.Lists.{length-take}
-use Rattle·lexer.specs.Tokens.{Tok, tok, toks, gap}
-use Rattle·lexer.specs.Theorems.{Lies}
-use Rattle·lexer.specs.declared.reader.Piece.{Piece}
-use Rattle·grammar.specs.Grammar.{Item as Meant}
-use Rattle·semantics.specs.Names.{Decl, decls-item}
-use Rattle·semantics.specs.Theorems.{Among}
-use Rattle·declarations.specs.Declares.{TypeWord}
-use Rattle·declarations.proofs.Found.{ops-length}
-use Rattle·declarations.proofs.Inline.{type-in}
-use Rattle·parser.specs.Rows.{ops-of}
-use Rattle·syntax.specs.Line.{item-in}
-use Rattle·syntax.specs.View.{piece-of, ViewSays}
-use Rattle·collector·specs.Says.{plain, line-of}
-use Rattle·collector·proofs.Heads.{plain-decls, plain-type, typed, each-nth, slots-long, lies, decl-in, name-lies}
-use Rattle·collector·proofs.entry.head_at.Needs as need
+use Rattle.std.proofs.Common.{◌≡◌, ℕ, ◌<◌, ◌≤◌, min, List, length, take, Some, sym, refl, ap, ◌∙◌, subst, arith}
+use Rattle.std.specs.List.{slice_get}
+use Rattle.std.proofs.lemmas.List.{length-take}
+use Rattle.lexer.specs.Tokens.{Tok, tok, toks, gap}
+use Rattle.lexer.specs.Theorems.{Lies}
+use Rattle.lexer.specs.declared.reader.Piece.{Piece}
+use Rattle.grammar.specs.Grammar.{Item as Meant}
+use Rattle.semantics.specs.Names.{Decl, decls_item}
+use Rattle.semantics.specs.Theorems.{Among}
+use Rattle.declarations.specs.Declares.{TypeWord}
+use Rattle.declarations.proofs.Found.{ops_length}
+use Rattle.declarations.proofs.Inline.{type_in}
+use Rattle.parser.specs.Rows.{ops_of}
+use Rattle.syntax.specs.Line.{item_in}
+use Rattle.syntax.specs.View.{piece_of, ViewSays}
+use Rattle.collector.specs.Says.{plain, line_of}
+use Rattle.collector.proofs.Heads.{plain_decls, plain_type, typed, each_nth, slots_long, lies, decl_in, name_lies}
+use Rattle.collector.proofs.entry.head_at.Goals as goal
 
-pub returns-in-rest : need.returns-in-rest
-returns-in-rest c =
-    let line = line-of (c .args .words .now) (c .args .line) in
-    let it = item-in line in
-    let v = c .item-of-item .ensures (plain it) (omega (arith, c .pre .loads .short, c .pre .order .slot, c .pre .order .table, c .pre .order .row)) (c .pre .loads .code-in) (c .pre .loads .code-is) in
-    omega (arith, c .in-rest .ensures tt line (plain it) v, ap length (plain-decls 0 it))
+pub returns-in-default : goal.returns-in-default
+returns-in-default c =
+    let line = line_of c.args.words.now c.args.line in
+    let it = item_in line in
+    let v = c.item-of-item.ensures (plain it) (omega (arith, c.requires.loads.short, c.requires.order.slot, c.requires.order.table, c.requires.order.row)) c.requires.loads.code_in c.requires.loads.code-is in
+    omega (arith, c.in-default.ensures line (plain it) v, ap length (plain_decls 0 it))
 
-pub returns-in-rest-type-word : need.returns-in-rest-type-word
-returns-in-rest-type-word c =
-    let line = line-of (c .args .words .now) (c .args .line) in
-    let it = item-in line in
-    let v = c .item-of-item .ensures (plain it) (omega (arith, c .pre .loads .short, c .pre .order .slot, c .pre .order .table, c .pre .order .row)) (c .pre .loads .code-in) (c .pre .loads .code-is) in
-    omega (arith, ap length (c .in-rest-type-word .ensures tt line (plain it) v), ap length (plain-decls 0 it))
+pub returns-in-default-type-word : goal.returns-in-default-type-word
+returns-in-default-type-word c =
+    let line = line_of c.args.words.now c.args.line in
+    let it = item_in line in
+    let v = c.item-of-item.ensures (plain it) (omega (arith, c.requires.loads.short, c.requires.order.slot, c.requires.order.table, c.requires.order.row)) c.requires.loads.code_in c.requires.loads.code-is in
+    omega (arith, ap length (c.in-default-type-word.ensures line (plain it) v), ap length (plain_decls 0 it))
 
 small : (ws : List ℕ) (len a b : ℕ) → len < 4294967296 → a < b → b ≤ length (take len ws) → (a < 4294967296) × (b < 4294967296)
 small ws len a b h k n = let t = length-take len ws in (omega arith, omega arith)
 
-pub span-requires : need.span-requires
-span-requires c κs =
-    let ws = c .args .words .now in
-    let line = line-of ws (c .args .line) in
-    let it = item-in line in
-    let v = c .item-of-item .ensures (plain it) (omega (arith, c .pre .loads .short, c .pre .order .slot, c .pre .order .table, c .pre .order .row)) (c .pre .loads .code-in) (c .pre .loads .code-is) in
-    let a = c .in-Some .ensures tt line (plain it) v in
-    let x = a .0 in
-    let p = name-lies line x (decl-in line 0 (c .args .i) x (ap (λ ds. nth ds (c .args .i)) (sym (plain-decls 0 it)) ∙ a .1)) in
-    let f : x .from ≡ c .in-Some .d .name .from = ap (λ d. d .from) (a .2 .1) in
-    let t : x .to ≡ c .in-Some .d .name .to = ap (λ d. d .to) (a .2 .1) in
-    let s = small ws (c .args .line .len) (x .from) (x .to) (omega (arith, c .pre .loads .short, c .pre .order .slot, c .pre .order .table, c .pre .order .row, c .pre .order .small)) (p .some-bytes) (p .within) in
-    (omega (arith, f, s .0), omega (arith, t, s .1))
+pub span-requires : goal.span-requires
+span-requires c =
+    let ws = c.args.words.now in
+    let line = line_of ws c.args.line in
+    let it = item_in line in
+    let v = c.item-of-item.ensures (plain it) (omega (arith, c.requires.loads.short, c.requires.order.slot, c.requires.order.table, c.requires.order.row)) c.requires.loads.code_in c.requires.loads.code-is in
+    let a = c.in-Some.ensures line (plain it) v in
+    let x = a.0 in
+    let p = name_lies line x (decl_in line 0 c.args.i x (ap (λ ds. slice_get ds c.args.i) (sym (plain_decls 0 it)) ∙ a.1)) in
+    let f : x.from ≡ c.in-Some.d.name.from = ap (λ d. d.from) a.2.1 in
+    let t : x.to ≡ c.in-Some.d.name.to = ap (λ d. d.to) a.2.1 in
+    let s = small ws c.args.line.len x.from x.to (omega (arith, c.requires.loads.short, c.requires.order.slot, c.requires.order.table, c.requires.order.row, c.requires.order.small)) p.some_bytes p.within in
+    (omega (arith, f, s.0), omega (arith, t, s.1))
 
-pub span-requires-2 : need.span-requires-2
-span-requires-2 c κs =
-    let ws = c .args .words .now in
-    let line = line-of ws (c .args .line) in
-    let it = item-in line in
-    let v = c .item-of-item .ensures (plain it) (omega (arith, c .pre .loads .short, c .pre .order .slot, c .pre .order .table, c .pre .order .row)) (c .pre .loads .code-in) (c .pre .loads .code-is) in
-    let t = piece-of (c .in-Some-type-word .ty) in
-    let p = lies line t (type-in (record { start = 0; bytes = line }) t (plain-type it t (c .in-Some-type-word .ensures tt line (plain it) v))) in
-    small ws (c .args .line .len) (t .from) (t .to) (omega (arith, c .pre .loads .short, c .pre .order .slot, c .pre .order .table, c .pre .order .row, c .pre .order .small)) (p .some-bytes) (p .within)
+pub span-requires-2 : goal.span-requires-2
+span-requires-2 c =
+    let ws = c.args.words.now in
+    let line = line_of ws c.args.line in
+    let it = item_in line in
+    let v = c.item-of-item.ensures (plain it) (omega (arith, c.requires.loads.short, c.requires.order.slot, c.requires.order.table, c.requires.order.row)) c.requires.loads.code_in c.requires.loads.code-is in
+    let t = piece_of c.in-Some-type-word.ty in
+    let p = lies line t (type_in (record { start = 0; bytes = line }) t (plain_type it t (c.in-Some-type-word.ensures line (plain it) v))) in
+    small ws c.args.line.len t.from t.to (omega (arith, c.requires.loads.short, c.requires.order.slot, c.requires.order.table, c.requires.order.row, c.requires.order.small)) p.some_bytes p.within
 
-pub returns : need.returns
+pub returns : goal.returns
 returns c =
-    let ws = c .args .words .now in
-    let line = line-of ws (c .args .line) in
-    let it = item-in line in
-    let v = c .item-of-item .ensures (plain it) (omega (arith, c .pre .loads .short, c .pre .order .slot, c .pre .order .table, c .pre .order .row)) (c .pre .loads .code-in) (c .pre .loads .code-is) in
-    let a = c .in-Some .ensures tt line (plain it) v in
-    let x = a .0 in
-    let e : nth (decls-item 0 it) (c .args .i) ≡ Some x = ap (λ ds. nth ds (c .args .i)) (sym (plain-decls 0 it)) ∙ a .1 in
-    let t = piece-of (c .in-Some-type-word .ty) in
-    let w = plain-type it t (c .in-Some-type-word .ensures tt line (plain it) v) in
-    let d = a .2 .1 in
-    (x, e, record {
-      sort-is = ap (λ d. d .sort) d ∙ sym (c .number .ensures);
-      from-is = ap (λ d. d .from) d ∙ sym (c .span .ensures .0);
-      to-is = ap (λ d. d .to) d ∙ sym (c .span .ensures .1);
-      type = t;
-      type-among = type-in (record { start = 0; bytes = line }) t w;
-      type-from = sym (c .span-2 .ensures .0);
-      type-to = sym (c .span-2 .ensures .1);
-      type-is = each-nth (λ d. d .ty ≡ t .w) (decls-item 0 it) (c .args .i) x (typed 0 it t w) e;
-      slots-are = ap (λ d. length (d .fields)) d ∙ sym (slots-long (a .2 .0)) ∙ ap length (sym (a .2 .2)) ∙ ops-length line (now (c .in-Some .d .fields .code)) ∙ sym (c .len .ensures);
-    })
+    let ws = c.args.words.now in
+    let line = line_of ws c.args.line in
+    let it = item_in line in
+    let v = c.item-of-item.ensures (plain it) (omega (arith, c.requires.loads.short, c.requires.order.slot, c.requires.order.table, c.requires.order.row)) c.requires.loads.code_in c.requires.loads.code-is in
+    let a = c.in-Some.ensures line (plain it) v in
+    let x = a.0 in
+    let e : slice_get (decls_item 0 it) c.args.i ≡ Some x = ap (λ ds. slice_get ds c.args.i) (sym (plain_decls 0 it)) ∙ a.1 in
+    let t = piece_of c.in-Some-type-word.ty in
+    let w = plain_type it t (c.in-Some-type-word.ensures line (plain it) v) in
+    let d = a.2.1 in (
+      x,
+      e,
+      record {
+        sort_is = ap (λ d. d.sort) d ∙ sym c.number.ensures;
+        from_is = ap (λ d. d.from) d ∙ sym c.span.ensures.0;
+        to_is = ap (λ d. d.to) d ∙ sym c.span.ensures.1;
+        type = t;
+        type_among = type_in (record { start = 0; bytes = line }) t w;
+        type_from = sym c.span-2.ensures.0;
+        type_to = sym c.span-2.ensures.1;
+        type_is = each_nth (λ d. d.ty ≡ t.w) (decls_item 0 it) c.args.i x (typed 0 it t w) e;
+        slots_are = ap (λ d. length d.fields) d ∙ sym (slots_long a.2.0) ∙ ap length (sym a.2.2) ∙ ops_length line c.in-Some.d.fields.code.now ∙ sym c.len.ensures;
+      },
+    )

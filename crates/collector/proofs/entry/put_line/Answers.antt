@@ -1,35 +1,34 @@
 -- All that a line declares.
-use mathlib.Core.Path.{_≡_, sym, subst}
-use native.Mathlib.Omega.{arith}
-use Rattle·std.proofs.shelf.Results.{err-from-errBy}
-use Rattle·collector·specs.Entries.{Declared}
-use Rattle·collector·specs.Says.{LineSays}
-use Rattle·collector·proofs.Lined.{said, many, partly-none, partly-more, partly-stops, partly-all, still-order, still-loads}
-use Rattle·collector·proofs.entry.put_line.Needs as need
+use Rattle.std.proofs.Common.{◌≡◌, sym, subst, arith}
+use Rattle.std.proofs.lemmas.Result.{err_from_is_err_and}
+use Rattle.collector.specs.Entries.{Declared}
+use Rattle.collector.specs.Says.{LineSays}
+use Rattle.collector.proofs.Lined.{said, many, partly_none, partly_more, partly_stops, partly_all, still_order, still_loads}
+use Rattle.collector.proofs.entry.put_line.Goals as goal
 
-pub loop-i-holds : need.loop-i-holds
-loop-i-holds c = partly-none (c .args .l) (c .args .words .now) (c .args .line) (c .args .by) (c .args .at) (c .pre .order) (c .pre .loads) (c .pre .place .0) (c .pre .place .1)
+pub loop-i-init : goal.loop-i-init
+loop-i-init c = partly_none c.args.l c.args.words.now c.args.line c.args.by c.args.at c.requires.order c.requires.loads c.requires.place.0 c.requires.place.1
 
-pub put-entry-requires : need.put-entry-requires
-put-entry-requires c κs = record {
-  order = still-order (c .args .l) (c .args .words .now) (c .args .line) (c .args .by) (c .args .at) (c .pre .order) (c .pre .loads) (c .pre .place .0) (c .loop-i .i) (c .loop-i .to) (c .loop-i .words) (c .loop-i .inv);
-  loads = still-loads (c .args .l) (c .args .words .now) (c .args .line) (c .args .by) (c .args .at) (c .pre .order) (c .pre .loads) (c .pre .place .0) (c .loop-i .i) (c .loop-i .to) (c .loop-i .words) (c .loop-i .inv);
-  place = (omega (arith, c .pre .place .0, c .loop-i .inv .wrote .onward), c .loop-i .inv .wrote .within, c .pre .place .2);
+pub put-entry-requires : goal.put-entry-requires
+put-entry-requires c = record {
+  order = still_order c.args.l c.args.words.now c.args.line c.args.by c.args.at c.requires.order c.requires.loads c.requires.place.0 c.loop-i.i c.loop-i.to c.loop-i.words c.loop-i.invariant;
+  loads = still_loads c.args.l c.args.words.now c.args.line c.args.by c.args.at c.requires.order c.requires.loads c.requires.place.0 c.loop-i.i c.loop-i.to c.loop-i.words c.loop-i.invariant;
+  place = (omega (arith, c.requires.place.0, c.loop-i.invariant.wrote.onward), c.loop-i.invariant.wrote.within, c.requires.place.2);
 }
 
-pub loop-i-again : need.loop-i-again
-loop-i-again c =
-    let n = many (c .args .l) (c .args .words .now) (c .args .line) (c .args .by) (c .pre .order) (c .pre .loads) (c .item-of .result) (c .declared-count .result) (c .item-of .ensures) (c .declared-count .ensures) in
-    partly-more (c .args .l) (c .args .words .now) (c .args .line) (c .args .by) (c .args .at) (c .pre .order) (c .pre .loads) (c .pre .place .0) (c .loop-i .i) (c .loop-i .to) (c .in-Continue-to .to) (c .loop-i .words) (c .put-entry .last .words) (omega (arith, n, c .loop-i-test .taken)) (c .loop-i .inv) (c .in-Continue-to .ensures tt)
+pub loop-i-preserved : goal.loop-i-preserved
+loop-i-preserved c =
+    let n = many c.args.l c.args.words.now c.args.line c.args.by c.requires.order c.requires.loads c.item-of.result c.declared-count.result c.item-of.ensures c.declared-count.ensures in
+    partly_more c.args.l c.args.words.now c.args.line c.args.by c.args.at c.requires.order c.requires.loads c.requires.place.0 c.loop-i.i c.loop-i.to c.in-ok-to.to c.loop-i.words c.put-entry.new.words (omega (arith, n, c.loop-i-test.true)) c.loop-i.invariant c.in-ok-to.ensures
 
-pub returns-in-Break-to : need.returns-in-Break-to
-returns-in-Break-to c =
-    let p = err-from-errBy (c .from-residual .result) (c .from-residual .ensures .1) in
-    subst (LineSays (c .args .l) (c .args .words .now) (c .args .line) (c .args .by) (c .args .at) (c .put-entry .last .words)) (sym (p .1)) (partly-stops (c .args .l) (c .args .words .now) (c .args .line) (c .args .by) (c .args .at) (c .pre .order) (c .pre .loads) (c .pre .place .0) (c .loop-i .i) (c .loop-i .to) (c .loop-i .words) (c .put-entry .last .words) (p .0) (c .loop-i .inv) (c .in-Break-to .ensures tt))
+pub returns-in-err-to : goal.returns-in-err-to
+returns-in-err-to c =
+    let p = err_from_is_err_and c.from-residual.result c.from-residual.ensures.1 in
+    subst (LineSays c.args.l c.args.words.now c.args.line c.args.by c.args.at c.put-entry.new.words) (sym p.1) (partly_stops c.args.l c.args.words.now c.args.line c.args.by c.args.at c.requires.order c.requires.loads c.requires.place.0 c.loop-i.i c.loop-i.to c.loop-i.words c.put-entry.new.words p.0 c.loop-i.invariant c.in-err-to.ensures)
 
-pub returns : need.returns
+pub returns : goal.returns
 returns c =
-    let n = many (c .args .l) (c .args .words .now) (c .args .line) (c .args .by) (c .pre .order) (c .pre .loads) (c .item-of .result) (c .declared-count .result) (c .item-of .ensures) (c .declared-count .ensures) in
-    let e : c .loop-i .i ≡ c .declared-count .result = omega (arith, c .loop-i .kept .i-end, c .loop-i-test .left) in
-    let r = partly-all (c .args .l) (c .args .words .now) (c .args .line) (c .args .by) (c .args .at) (c .pre .order) (c .pre .loads) (c .pre .place .0) (c .loop-i .i) (c .loop-i .to) (c .loop-i .words) (omega (arith, n, e)) (c .loop-i .inv) in
-    (r .0, λ m q. subst (λ k. Declared m (c .args .l .texts) (c .args .by .file) (c .loop-i .words) (c .args .at) (c .loop-i .to) k (said (c .args .words .now) (c .args .line) (c .args .by))) e (r .1 m q))
+    let n = many c.args.l c.args.words.now c.args.line c.args.by c.requires.order c.requires.loads c.item-of.result c.declared-count.result c.item-of.ensures c.declared-count.ensures in
+    let e : c.loop-i.i ≡ c.declared-count.result = omega (arith, c.loop-i.auto.i-end, c.loop-i-test.false) in
+    let r = partly_all c.args.l c.args.words.now c.args.line c.args.by c.args.at c.requires.order c.requires.loads c.requires.place.0 c.loop-i.i c.loop-i.to c.loop-i.words (omega (arith, n, e)) c.loop-i.invariant in
+    (r.0, λ m q. subst (λ k. Declared m c.args.l.texts c.args.by.file c.loop-i.words c.args.at c.loop-i.to k (said c.args.words.now c.args.line c.args.by)) e (r.1 m q))

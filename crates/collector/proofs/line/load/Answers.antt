@@ -1,36 +1,32 @@
 -- A line of a file.
-use mathlib.Core.Path.{_≡_, sym, ap, subst, _∙_}
-use Prim.Native.Nat.{_+_, _-_, _≤_}
-use native.Mathlib.Omega.{arith}
-use lib.ListN.{length}
-use Rattle·std.specs.Finite.{nth}
-use Rattle·source.specs.Source.{LineSays}
-use Rattle·std.specs.declared.option.Option.the-variants.{Some}
-use Rattle·collector·specs.Rows.{texts-in}
-use Rattle·collector·specs.Says.{LoadSays}
-use Rattle·collector·proofs.Loading.{load-says, texts-long}
-use Rattle·collector·proofs.line.load.Needs as need
+use Rattle.std.proofs.Common.{◌≡◌, ◌+◌, ◌-◌, ◌≤◌, length, Some, sym, ap, ◌∙◌, subst, arith}
+use Rattle.std.specs.List.{slice_get}
+use Rattle.source.specs.Source.{LineSays}
+use Rattle.collector.specs.Rows.{texts_in}
+use Rattle.collector.specs.Says.{LoadSays}
+use Rattle.collector.proofs.Loading.{load_says, texts_long}
+use Rattle.collector.proofs.line.load.Goals as goal
 
-pub returns-in-rest : need.returns-in-rest
-returns-in-rest g c =
-    let s = c .args .source .now in
-    let t = c .pre .there in
-    let n = c .in-rest .ensures tt (t .0) (ap (λ m. nth (g .S·Source .holds s m) (c .args .file)) (c .texts-of .ensures) ∙ t .1) in
-    absurd (omega (arith, n, t .2))
+pub returns-in-default : goal.returns-in-default
+returns-in-default g c =
+    let s = c.args.source.now in
+    let t = c.requires.there in
+    let n = c.in-default.ensures t.0 (ap (λ m. slice_get (g.S.Source.holds s m) c.args.file) c.texts-of.ensures ∙ t.1) in
+    absurd (omega (arith, n, t.2))
 
-pub line-requires : need.line-requires
-line-requires g c κs = subst (g .S·Source .fits (c .args .source .now)) (sym (c .texts-of .ensures)) (c .pre .fits)
+pub line-requires : goal.line-requires
+line-requires g c = subst (g.S.Source.fits c.args.source.now) (sym c.texts-of.ensures) c.requires.fits
 
-pub read-requires : need.read-requires
-read-requires g c κs =
-    let e = c .in-Some .ensures tt .4 .0 in
-    let n = ap length (c .texts-of .ensures) ∙ texts-long (c .args .l) (c .args .words .now) (c .pre .order) in
-    record { order = c .pre .order; place = (omega arith, omega (arith, e, n, c .pre .order .slot)) }
+pub read-requires : goal.read-requires
+read-requires g c =
+    let e = c.in-Some.ensures.4.0 in
+    let n = ap length c.texts-of.ensures ∙ texts_long c.args.l c.args.words.now c.requires.order in
+    record { order = c.requires.order; place = (omega arith, omega (arith, e, n, c.requires.order.slot)) }
 
-pub returns : need.returns
+pub returns : goal.returns
 returns g c =
-    let s = c .args .source .now in
-    let l = c .args .l in
-    let ws = c .args .words .now in
-    let m = c .texts-of .result .now in
-    load-says (g .S·Source .holds s (texts-in l ws)) l (c .args .file) (c .args .i) ws (c .read .last .words) m (c .in-Some .e) (c .read .result) (c .pre .order) (c .texts-of .ensures) (subst (λ x. LineSays (g .S·Source .holds s x) (c .args .file) (c .args .i) m (Some (c .in-Some .e))) (c .texts-of .ensures) (c .in-Some .ensures tt)) (c .read .ensures)
+    let s = c.args.source.now in
+    let l = c.args.l in
+    let ws = c.args.words.now in
+    let m = c.texts-of.result.now in
+    load_says (g.S.Source.holds s (texts_in l ws)) l c.args.file c.args.i ws c.read.new.words m c.in-Some.e c.read.result c.requires.order c.texts-of.ensures (subst (λ x. LineSays (g.S.Source.holds s x) c.args.file c.args.i m (Some c.in-Some.e)) c.texts-of.ensures c.in-Some.ensures) c.read.ensures

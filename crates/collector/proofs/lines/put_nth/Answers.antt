@@ -1,43 +1,41 @@
 -- A line of a file.
-use mathlib.Core.Path.{_≡_, refl, sym, subst}
-use Prim.Native.Nat.{_≤_}
-use native.Mathlib.Omega.{arith}
-use Rattle·std.proofs.shelf.Results.{err-from-errBy}
-use Rattle·collector·specs.Rows.{texts-in}
-use Rattle·collector·specs.Says.{NthSays}
-use Rattle·collector·proofs.Writes.{order-kept}
-use Rattle·collector·proofs.Filed.{nth-far, nth-unread, nth-full, nth-done}
-use Rattle·collector·proofs.lines.put_nth.Needs as need
+use Rattle.std.proofs.Common.{◌≡◌, ◌≤◌, sym, refl, subst, arith}
+use Rattle.std.proofs.lemmas.Result.{err_from_is_err_and}
+use Rattle.collector.specs.Rows.{texts_in}
+use Rattle.collector.specs.Says.{NthSays}
+use Rattle.collector.proofs.Writes.{order_kept}
+use Rattle.collector.proofs.Filed.{nth_far, nth_unread, nth_full, nth_done}
+use Rattle.collector.proofs.lines.put_nth.Goals as goal
 
-pub returns-then-start-gt-FARTHEST : need.returns-then-start-gt-FARTHEST
+pub returns-then-start-gt-FARTHEST : goal.returns-then-start-gt-FARTHEST
 returns-then-start-gt-FARTHEST g c =
-    let ws = c .args .words .now in
-    let p = g .S·Source .holds (c .args .source .now) (texts-in (c .args .l) ws) in
-    nth-far p (c .args .l) (c .args .file) (c .args .i) (c .args .start) (c .args .at) ws ws (c .pre .order) (c .pre .place .0) (c .pre .place .1) (c .pre .begins) (c .pre .there) (c .if-start-gt-FARTHEST .taken)
+    let ws = c.args.words.now in
+    let p = g.S.Source.holds c.args.source.now (texts_in c.args.l ws) in
+    nth_far p c.args.l c.args.file c.args.i c.args.start c.args.at ws ws c.requires.order c.requires.place.0 c.requires.place.1 c.requires.begins c.requires.there c.if-start-gt-FARTHEST.true
 
-pub returns-in-Break-line : need.returns-in-Break-line
-returns-in-Break-line g c =
-    let ws = c .args .words .now in
-    let p = g .S·Source .holds (c .args .source .now) (texts-in (c .args .l) ws) in
-    let r = err-from-errBy (c .from-residual .result) (c .from-residual .ensures .1) in
-    subst (NthSays p (c .args .l) (c .args .file) (c .args .i) (c .args .start) ws (c .args .at) (c .load .last .words)) (sym (r .1)) (nth-unread p (c .args .l) (c .args .file) (c .args .i) (c .args .start) (c .args .at) ws (c .load .last .words) (c .pre .order) (c .pre .place .0) (c .pre .place .1) (c .pre .begins) (r .0) (c .in-Break-line .ensures tt))
+pub returns-in-err-line : goal.returns-in-err-line
+returns-in-err-line g c =
+    let ws = c.args.words.now in
+    let p = g.S.Source.holds c.args.source.now (texts_in c.args.l ws) in
+    let r = err_from_is_err_and c.from-residual.result c.from-residual.ensures.1 in
+    subst (NthSays p c.args.l c.args.file c.args.i c.args.start ws c.args.at c.load.new.words) (sym r.1) (nth_unread p c.args.l c.args.file c.args.i c.args.start c.args.at ws c.load.new.words c.requires.order c.requires.place.0 c.requires.place.1 c.requires.begins r.0 c.in-err-line.ensures)
 
-pub put-line-requires : need.put-line-requires
-put-line-requires g c κs =
-    let d = c .in-Continue-line .ensures tt in
-    record { order = order-kept (c .args .l) (c .args .words .now) (c .load .last .words) (d .0 .long) (c .pre .order); loads = d .1; place = (c .pre .place .0, c .pre .place .1, d .2) }
+pub put-line-requires : goal.put-line-requires
+put-line-requires g c =
+    let d = c.in-ok-line.ensures in
+    record { order = order_kept c.args.l c.args.words.now c.load.new.words d.0.long c.requires.order; loads = d.1; place = (c.requires.place.0, c.requires.place.1, d.2) }
 
-pub returns-in-Break-listed : need.returns-in-Break-listed
-returns-in-Break-listed g c =
-    let ws = c .args .words .now in
-    let p = g .S·Source .holds (c .args .source .now) (texts-in (c .args .l) ws) in
-    let r = err-from-errBy (c .from-residual-in-Break-listed .result) (c .from-residual-in-Break-listed .ensures .1) in
-    subst (NthSays p (c .args .l) (c .args .file) (c .args .i) (c .args .start) ws (c .args .at) (c .put-line .last .words)) (sym (r .1)) (nth-full p (c .args .l) (c .args .file) (c .args .i) (c .args .start) (c .args .at) ws (c .load .last .words) (c .pre .order) (c .pre .place .0) (c .pre .place .1) (c .pre .begins) (c .in-Continue-line .line) (c .in-Continue-line .ensures tt) (record { file = c .args .file; start = c .args .start }) refl refl (c .put-line .last .words) (r .0) (c .in-Break-listed .ensures tt))
+pub returns-in-err-listed : goal.returns-in-err-listed
+returns-in-err-listed g c =
+    let ws = c.args.words.now in
+    let p = g.S.Source.holds c.args.source.now (texts_in c.args.l ws) in
+    let r = err_from_is_err_and c.from-residual-in-err-listed.result c.from-residual-in-err-listed.ensures.1 in
+    subst (NthSays p c.args.l c.args.file c.args.i c.args.start ws c.args.at c.put-line.new.words) (sym r.1) (nth_full p c.args.l c.args.file c.args.i c.args.start c.args.at ws c.load.new.words c.requires.order c.requires.place.0 c.requires.place.1 c.requires.begins c.in-ok-line.line c.in-ok-line.ensures (record { file = c.args.file; start = c.args.start }) refl refl c.put-line.new.words r.0 c.in-err-listed.ensures)
 
-pub returns : need.returns
+pub returns : goal.returns
 returns g c =
-    let ws = c .args .words .now in
-    let p = g .S·Source .holds (c .args .source .now) (texts-in (c .args .l) ws) in
-    let d = c .in-Continue-line .ensures tt in
-    let r = nth-done p (c .args .l) (c .args .file) (c .args .i) (c .args .start) (c .args .at) ws (c .load .last .words) (c .pre .order) (c .pre .place .0) (c .pre .place .1) (c .pre .begins) (c .in-Continue-line .line) d (record { file = c .args .file; start = c .args .start }) refl refl (c .put-line .last .words) (c .in-Continue-listed .listed) (c .in-Continue-listed .ensures tt) in
-    (r .0, omega (arith, c .if-start-gt-FARTHEST .left), omega (arith, d .1 .short, c .pre .order .slot, c .pre .order .table, c .pre .order .row, c .pre .order .small), r .1)
+    let ws = c.args.words.now in
+    let p = g.S.Source.holds c.args.source.now (texts_in c.args.l ws) in
+    let d = c.in-ok-line.ensures in
+    let r = nth_done p c.args.l c.args.file c.args.i c.args.start c.args.at ws c.load.new.words c.requires.order c.requires.place.0 c.requires.place.1 c.requires.begins c.in-ok-line.line d (record { file = c.args.file; start = c.args.start }) refl refl c.put-line.new.words c.in-ok-listed.listed c.in-ok-listed.ensures in
+    (r.0, omega (arith, c.if-start-gt-FARTHEST.false), omega (arith, d.1.short, c.requires.order.slot, c.requires.order.table, c.requires.order.row, c.requires.order.small), r.1)

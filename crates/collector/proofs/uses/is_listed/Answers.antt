@@ -1,32 +1,28 @@
 -- A list of files looked through for a name.
-use mathlib.Core.Path.{_≡_, sym, ap, _∙_}
-use mathlib.Core.Bool.{true}
-use mathlib.Core.Logic.{inl, inr}
-use Prim.Native.Nat.{ℕ, _+_, _≤_, _<_}
-use native.Mathlib.Omega.{arith}
-use Rattle·std.specs.Finite.{nth}
-use Rattle·std.proofs.shelf.Tests.{cases-eq, both-ways}
-use Rattle·symbols.specs.Table.{word}
-use Rattle·collector·specs.Rows.{texts-in}
-use Rattle·collector·specs.Says.{word-in}
-use Rattle·collector·proofs.Used.{listed-hit, listed-miss}
-use Rattle·collector·proofs.uses.is_listed.Needs as need
+use Rattle.std.proofs.Common.{◌≡◌, ℕ, ◌+◌, ◌<◌, ◌≤◌, true, sym, ap, ◌∙◌, inl, inr, arith}
+use Rattle.std.specs.List.{slice_get}
+use Rattle.std.proofs.lemmas.Bool.{cases_eq, both_ways}
+use Rattle.symbols.specs.Table.{word}
+use Rattle.collector.specs.Rows.{texts_in}
+use Rattle.collector.specs.Says.{word_in}
+use Rattle.collector.proofs.Used.{listed_hit, listed_miss}
+use Rattle.collector.proofs.uses.is_listed.Goals as goal
 
-pub returns-then-named : need.returns-then-named
+pub returns-then-named : goal.returns-then-named
 returns-then-named g c = λ ns x u f.
-    let ws = c .args .words .now in
-    listed-hit (g .S·Source .holds (c .args .source .now) (texts-in (c .args .l) ws)) (word-in ws (c .args .s)) ws (c .args .from) (c .args .to) (c .loop-j .j) ns (c .named .result) (c .loop-j .kept .j) (c .loop-j-test .taken) u (c .named .ensures) (c .if-named .taken)
+    let ws = c.args.words.now in
+    listed_hit (g.S.Source.holds c.args.source.now (texts_in c.args.l ws)) (word_in ws c.args.s) ws c.args.from c.args.to c.loop-j.j ns c.named.result c.loop-j.auto.j c.loop-j-test.true u c.named.ensures c.if-named.true
 
-pub loop-j-holds : need.loop-j-holds
-loop-j-holds g c = λ k h l. absurd (omega arith)
+pub loop-j-init : goal.loop-j-init
+loop-j-init g c = λ k h l. absurd (omega arith)
 
-pub loop-j-again : need.loop-j-again
-loop-j-again g c = λ k h l y e s.
-    let ws = c .args .words .now in
-    let p = g .S·Source .holds (c .args .source .now) (texts-in (c .args .l) ws) in
-    elim (cases-eq k (c .loop-j .j)) [ inl i ↦ both-ways (c .named .result) (c .if-named .left) (c .named .ensures y (ap (λ n. nth p (word ws n)) (sym i) ∙ e) ∙ s) | inr n ↦ c .loop-j .inv k h (omega arith) y e s ]
+pub loop-j-preserved : goal.loop-j-preserved
+loop-j-preserved g c = λ k h l y e s.
+    let ws = c.args.words.now in
+    let p = g.S.Source.holds c.args.source.now (texts_in c.args.l ws) in
+    elim (cases_eq k c.loop-j.j) [ inl i ↦ both_ways c.named.result c.if-named.false (c.named.ensures y (ap (λ n. slice_get p (word ws n)) (sym i) ∙ e) ∙ s) | inr n ↦ c.loop-j.invariant k h (omega arith) y e s ]
 
-pub returns : need.returns
+pub returns : goal.returns
 returns g c = λ ns x u f.
-    let ws = c .args .words .now in
-    listed-miss (g .S·Source .holds (c .args .source .now) (texts-in (c .args .l) ws)) (word-in ws (c .args .s)) ws (c .args .from) (c .args .to) (c .loop-j .j) ns x (c .loop-j-test .left) u f (c .loop-j .inv)
+    let ws = c.args.words.now in
+    listed_miss (g.S.Source.holds c.args.source.now (texts_in c.args.l ws)) (word_in ws c.args.s) ws c.args.from c.args.to c.loop-j.j ns x c.loop-j-test.false u f c.loop-j.invariant

@@ -1,10 +1,7 @@
 -- A name against a file's.
-use mathlib.Core.Path.{_≡_, sym, ap, _∙_}
-use Prim.Native.Nat.{_≤_}
-use native.Mathlib.Omega.{arith}
-use lib.ListN.{length}
-use Rattle·collector·proofs.Heads.{nth-lt}
-use Rattle·collector·proofs.uses.named.Needs as need
+use Rattle.std.proofs.Common.{◌≡◌, ◌≤◌, length, sym, ap, ◌∙◌, arith}
+use Rattle.collector.proofs.Heads.{nth_lt}
+use Rattle.collector.proofs.uses.named.Goals as goal
 
-pub returns-in-rest : need.returns-in-rest
-returns-in-rest g c = λ x e. absurd (omega (arith, nth-lt _ (c .args .file) x e, c .in-rest .ensures tt, ap (λ m. length (g .S·Source .holds (c .args .source .now) m)) (c .texts-of-texts .ensures)))
+pub returns-in-default : goal.returns-in-default
+returns-in-default g c = λ x e. absurd (omega (arith, nth_lt _ c.args.file x e, c.in-default.ensures, ap (λ m. length (g.S.Source.holds c.args.source.now m)) c.texts-of-texts.ensures))

@@ -1,37 +1,34 @@
 -- A constant of a kind, found by its operation.
-use mathlib.Core.Path.{refl, ap, _∙_}
-use mathlib.Core.List.{[]}
-use denote.Ref.{now}
-use Rattle·std.specs.declared.option.Option.the-variants.{Some, None}
-use Rattle·grammar.specs.Code.{consts-code, o-const}
-use Rattle·semantics.specs.Names.{decl}
-use Rattle·parser.specs.Rows.{op-is}
-use Rattle·syntax.specs.View.{piece-of}
-use Rattle·syntax.proofs.Views.{nth-none}
-use Rattle·declarations·proofs.Found.{moved, const-is, consts-is, consts-at, consts-past}
-use Rattle·declarations·proofs.declare.constant.Needs as need
+use Rattle.std.proofs.Common.{[], Some, None, refl, ap, ◌∙◌}
+use Rattle.grammar.specs.Code.{consts_code, o_const}
+use Rattle.semantics.specs.Names.{decl}
+use Rattle.parser.specs.Rows.{op_is}
+use Rattle.syntax.specs.View.{piece_of}
+use Rattle.syntax.proofs.Views.{nth_none}
+use Rattle.declarations.proofs.Found.{moved, const_is, consts_is, consts_at, consts_past}
+use Rattle.declarations.proofs.declare.constant.Goals as goal
 
-pub returns-in-rest : need.returns-in-rest
-returns-in-rest c = λ line cs e p.
-    let i = c .args .i in
-    let own = now (c .args .names .line) in
-    let code = now (c .args .names .code) in
-    consts-past (now (c .args .kind .text)) cs i (moved line own code (consts-code cs) i None e p (nth-none own code i (c .in-rest .ensures tt)))
+pub returns-in-default : goal.returns-in-default
+returns-in-default c = λ line cs e p.
+    let i = c.args.i in
+    let own = c.args.names.line.now in
+    let code = c.args.names.code.now in
+    consts_past c.args.kind.text.now cs i (moved line own code (consts_code cs) i None e p (nth_none own code i c.in-default.ensures))
 
-pub returns-in-Some-const-of : need.returns-in-Some-const-of
+pub returns-in-Some-const-of : goal.returns-in-Some-const-of
 returns-in-Some-const-of c = λ line cs e p.
-    let i = c .args .i in
-    let own = now (c .args .names .line) in
-    let k = now (c .args .kind .text) in
-    let t = piece-of (c .piece .result) in
-    let is = const-is own (c .in-Some .op) (c .in-Some-const-of .s) t (c .in-Some-const-of .ensures tt) (c .piece .ensures) in
-    let found = moved line own (now (c .args .names .code)) (consts-code cs) i (Some (o-const t)) e p (c .in-Some .ensures tt .1 ∙ ap Some is) in
-    (decl 0 t 1 k [], consts-at k cs i t found, ([], refl, c .empty .ensures .code line, c .empty .ensures .line ∙ p))
+    let i = c.args.i in
+    let own = c.args.names.line.now in
+    let k = c.args.kind.text.now in
+    let t = piece_of c.piece.result in
+    let is = const_is own c.in-Some.op c.in-Some-const-of.s t c.in-Some-const-of.ensures c.piece.ensures in
+    let found = moved line own c.args.names.code.now (consts_code cs) i (Some (o_const t)) e p (c.in-Some.ensures.1 ∙ ap Some is) in
+    (decl 0 t 1 k [], consts_at k cs i t found, ([], refl, c.empty.ensures.code line, c.empty.ensures.line ∙ p))
 
-pub returns-in-None : need.returns-in-None
+pub returns-in-None : goal.returns-in-None
 returns-in-None c = λ line cs e p.
-    let i = c .args .i in
-    let own = now (c .args .names .line) in
-    let o = op-is own (c .in-Some .op) in
-    let d = consts-is cs i o (moved line own (now (c .args .names .code)) (consts-code cs) i (Some o) e p (c .in-Some .ensures tt .1)) in
-    absurd (c .in-None .ensures tt own (d .0) (d .1))
+    let i = c.args.i in
+    let own = c.args.names.line.now in
+    let o = op_is own c.in-Some.op in
+    let d = consts_is cs i o (moved line own c.args.names.code.now (consts_code cs) i (Some o) e p c.in-Some.ensures.1) in
+    absurd (c.in-None.ensures own d.0 d.1)

@@ -1,11 +1,8 @@
 -- A constant for each operation, and the kind.
-use mathlib.Core.Path.{ap}
-use native.Mathlib.Omega.{arith}
-use lib.ListN.{length}
-use denote.Ref.{now}
-use Rattle·declarations·proofs.Found.{ops-length, consts-length}
-use Rattle·declarations·proofs.declare.with_kind.Needs as need
+use Rattle.std.proofs.Common.{length, ap, arith}
+use Rattle.declarations.proofs.Found.{ops_length, consts_length}
+use Rattle.declarations.proofs.declare.with_kind.Goals as goal
 
-pub returns : need.returns
+pub returns : goal.returns
 returns c = λ line kind cs e.
-    omega (arith, c .len .ensures, ops-length line (now (c .args .names .code)), ap length e, consts-length 0 kind cs)
+    omega (arith, c.len.ensures, ops_length line c.args.names.code.now, ap length e, consts_length 0 kind cs)

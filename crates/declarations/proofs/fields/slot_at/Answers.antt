@@ -1,17 +1,16 @@
 -- The i-th field has the i-th operation.
-use mathlib.Core.Path.{ap, sym, _∙_}
-use denote.Ref.{now}
-use Rattle·std.specs.Finite.{nth}
-use Rattle·syntax.proofs.Views.{nth-none}
-use Rattle·declarations·proofs.Found.{slots-past, places-are}
-use Rattle·declarations·proofs.fields.slot_at.Needs as need
+use Rattle.std.proofs.Common.{sym, ap, ◌∙◌}
+use Rattle.std.specs.List.{slice_get}
+use Rattle.syntax.proofs.Views.{nth_none}
+use Rattle.declarations.proofs.Found.{slots_past, places_are}
+use Rattle.declarations.proofs.fields.slot_at.Goals as goal
 
-pub returns-in-rest : need.returns-in-rest
-returns-in-rest c = λ fs e.
-    let i = c .args .i in
-    slots-past fs i (ap (λ os. nth os i) (sym e) ∙ nth-none (now (c .args .fields .line)) (now (c .args .fields .code)) i (c .in-rest .ensures tt))
+pub returns-in-default : goal.returns-in-default
+returns-in-default c = λ fs e.
+    let i = c.args.i in
+    slots_past fs i (ap (λ os. slice_get os i) (sym e) ∙ nth_none c.args.fields.line.now c.args.fields.code.now i c.in-default.ensures)
 
-pub returns : need.returns
+pub returns : goal.returns
 returns c = λ fs e.
-    let i = c .args .i in
-    places-are (now (c .args .fields .line)) fs i (c .in-Some .op) (c .slot-of .result) (ap (λ os. nth os i) (sym e) ∙ c .in-Some .ensures tt .1) (c .slot-of .ensures)
+    let i = c.args.i in
+    places_are c.args.fields.line.now fs i c.in-Some.op c.slot-of.result (ap (λ os. slice_get os i) (sym e) ∙ c.in-Some.ensures.1) c.slot-of.ensures

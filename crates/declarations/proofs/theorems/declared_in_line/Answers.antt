@@ -1,6 +1,6 @@
--- Declared-in-line.
-use Rattle·declarations·proofs.Inline.{declared-in-line}
-use Rattle·declarations·proofs.theorems.declared_in_line.Needs as need
+-- DeclaredInLine.
+use Rattle.declarations.proofs.Inline.{declared_in_line}
+use Rattle.declarations.proofs.theorems.declared_in_line.Goals as goal
 
-pub returns : need.returns
-returns c = declared-in-line
+pub returns : goal.returns
+returns c = declared_in_line

@@ -1,17 +1,15 @@
 -- What is proved by hand of call_kept.
-use mathlib.Core.Path.{refl}
-use native.Mathlib.Omega.{arith}
-use lib.ListN.{drop, length-drop}
-use Rattle·driver·specs.Says.{memo-in}
-use Rattle·driver·proofs.Calls.{call-none, call-look}
-use Rattle·driver·proofs.call.call_kept.Needs as need
+use Rattle.std.proofs.Common.{drop, refl, arith, length-drop}
+use Rattle.driver.specs.Says.{memo_in}
+use Rattle.driver.proofs.Calls.{call_none, call_look}
+use Rattle.driver.proofs.call.call_kept.Goals as goal
 
-pub returns-in-rest : need.returns-in-rest
-returns-in-rest c =
-    let a = c .pre in
-    let ws = c .args .mem .now in
-    let l = length-drop (c .args .memo) ws in
-    (a, refl, call-none (memo-in (c .args .known) (c .args .memo) ws) (drop (c .args .memo) ws) (c .args .r) (c .args .f) (c .args .k .now) (omega arith) (c .in-rest .ensures tt))
+pub returns-in-default : goal.returns-in-default
+returns-in-default c =
+    let a = c.requires in
+    let ws = c.args.mem.now in
+    let l = length-drop c.args.memo ws in
+    (a, refl, call_none (memo_in c.args.known c.args.memo ws) (drop c.args.memo ws) c.args.r c.args.f c.args.k.now (omega arith) c.in-default.ensures)
 
-pub returns : need.returns
-returns c = call-look (c .args .known) (c .args .memo) (c .args .r) (c .args .f) (c .args .k .now) (c .in-Some .d) (c .args .mem .now) (c .look .last .mem) (c .in-Some .ensures tt .1) (c .look .result) (c .look .ensures)
+pub returns : goal.returns
+returns c = call_look c.args.known c.args.memo c.args.r c.args.f c.args.k.now c.in-Some.d c.args.mem.now c.look.new.mem c.in-Some.ensures.1 c.look.result c.look.ensures

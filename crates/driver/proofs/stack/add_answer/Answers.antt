@@ -1,6 +1,6 @@
 -- What is proved by hand of add_answer.
-use Rattle·driver·proofs.Words.{added}
-use Rattle·driver·proofs.stack.add_answer.Needs as need
+use Rattle.driver.proofs.Words.{added}
+use Rattle.driver.proofs.stack.add_answer.Goals as goal
 
-pub returns : need.returns
-returns c = let e = added (c .args .work .now) (c .args .r) (c .args .n) (c .pre .0) in record { adds = e .adds; above = e .above }
+pub returns : goal.returns
+returns c = let e = added c.args.work.now c.args.r c.args.n c.requires.0 in record { adds = e.adds; above = e.above }

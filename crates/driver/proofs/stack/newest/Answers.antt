@@ -1,6 +1,6 @@
 -- What is proved by hand of newest.
-use Rattle·driver·proofs.Words.{heads}
-use Rattle·driver·proofs.stack.newest.Needs as need
+use Rattle.driver.proofs.Words.{heads}
+use Rattle.driver.proofs.stack.newest.Goals as goal
 
-pub returns : need.returns
-returns c = heads (c .args .f) (c .args .work .now) (c .pre .0) (c .pre .1)
+pub returns : goal.returns
+returns c = heads c.args.f c.args.work.now c.requires.0 c.requires.1

@@ -1,8 +1,8 @@
 -- What is proved by hand of push.
-use native.Mathlib.Omega.{arith}
-use Rattle·memo.proofs.Puts.{putMid-puts}
-use Rattle·driver·proofs.Words.{pushed}
-use Rattle·driver·proofs.stack.push.Needs as need
+use Rattle.std.proofs.Common.{arith}
+use Rattle.memo.proofs.Puts.{putMid_puts}
+use Rattle.driver.proofs.Words.{pushed}
+use Rattle.driver.proofs.stack.push.Goals as goal
 
-pub returns : need.returns
-returns c = pushed (c .args .f) (c .args .xs .now) (c .args .work .now) _ (putMid-puts _ _ (c .args .work .now) (c .copy-from-slice .last .self) (c .args .xs .now) (c .copy-from-slice .ensures .after) (omega arith)) (c .pre)
+pub returns : goal.returns
+returns c = pushed c.args.f c.args.xs.now c.args.work.now _ (putMid_puts _ _ c.args.work.now c.copy-from-slice.new.self c.args.xs.now c.copy-from-slice.ensures.after (omega arith)) c.requires

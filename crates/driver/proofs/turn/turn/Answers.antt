@@ -1,88 +1,85 @@
 -- What is proved by hand of turn.
-use mathlib.Core.Path.{_≡_, refl, sym, ap, subst, _∙_}
-use Prim.Native.Nat.{ℕ, _+_}
-use native.Mathlib.Omega.{arith}
-use lib.ListN.{take, drop, length-drop}
-use Rattle·driver·specs.declared.state.Now.{Now}
-use Rattle·driver·specs.declared.state.Now.the-variants.{Call, Back, Tell}
-use Rattle·driver·specs.Says.{memo-in}
-use Rattle·driver·specs.Doing.{Doing}
-use Rattle·driver·specs.Turns.{tellings, TurnSays}
-use Rattle·driver·proofs.Moves.{back-there, tell-there, tell-row, turn-input, turn-kept, turn-back, turn-tell}
-use Rattle·driver·proofs.turn.turn.Needs as need
+use Rattle.std.proofs.Common.{◌≡◌, ℕ, ◌+◌, take, drop, sym, refl, ap, ◌∙◌, subst, arith, length-drop}
+use Rattle.driver.specs.declared.state.Now.{Now}
+use Rattle.driver.specs.declared.state.Now.TheVariants.{Call, Back, Tell}
+use Rattle.driver.specs.Says.{memo_in}
+use Rattle.driver.specs.Doing.{Doing}
+use Rattle.driver.specs.Turns.{tellings, TurnSays}
+use Rattle.driver.proofs.Moves.{back_there, tell_there, tell_row, turn_input, turn_kept, turn_back, turn_tell}
+use Rattle.driver.proofs.turn.turn.Goals as goal
 
-none-told : (x : ℕ) (t s : Now) → t ≡ s → tellings s ≡ 0 → x ≡ x + tellings t
-none-told x t s e z = let a = ap tellings e in omega (arith, a, z)
+none_told : (x : ℕ) (t s : Now) → t ≡ s → tellings s ≡ 0 → x ≡ x + tellings t
+none_told x t s e z = let a = ap tellings e in omega (arith, a, z)
 
-pub returns-then-is-input : need.returns-then-is-input
+pub returns-then-is-input : goal.returns-then-is-input
 returns-then-is-input g c =
-    let ws = c .args .mem .now in
-    let t = c .args .t in
-    let b = g .R·Rules .book (c .args .rules .now) in
-    let i = g .I·Inputs .given (c .args .inputs .now) (take (c .args .known) ws) in
+    let ws = c.args.mem.now in
+    let t = c.args.t in
+    let b = g.R.Rules.book c.args.rules.now in
+    let i = g.I.Inputs.given c.args.inputs.now (take c.args.known ws) in
     record {
       book1 = refl;
-      runs1 = none-told _ _ _ (c .in-Call .is) refl;
-      says = subst (λ n. TurnSays b i (c .args .known) (c .args .memo) (t .rows) (t .frames) n ws (c .call-input .last .mem) (c .call-input .result)) (sym (c .in-Call .is)) (turn-input b i (c .args .known) (c .args .memo) (t .rows) (t .frames) ws (c .pre .area) (c .in-Call .k) (sym (c .if-is-input .ensures tt)) (c .call-input .last .mem) (c .call-input .result) (c .call-input .ensures));
+      runs1 = none_told _ _ _ c.in-Call.is refl;
+      says = subst (λ n. TurnSays b i c.args.known c.args.memo t.rows t.frames n ws c.call-input.new.mem c.call-input.result) (sym c.in-Call.is) (turn_input b i c.args.known c.args.memo t.rows t.frames ws c.requires.area c.in-Call.k (sym c.if-is-input.ensures) c.call-input.new.mem c.call-input.result c.call-input.ensures);
     }
 
-pub back-frame-requires : need.back-frame-requires
-back-frame-requires g c κs =
-    let ws = c .args .mem .now in
-    let t = c .args .t in
-    let th = c .pre .there in
-    let ms = memo-in (c .args .known) (c .args .memo) ws in
-    let w = drop (c .args .memo) ws in
-    record { area = c .pre .area; there = back-there ms w (t .rows) (t .frames) (c .in-Back .n) (th .0) (th .1) (subst (λ n. Doing ms w (t .rows) (t .frames) n (th .0)) (c .in-Back .is) (th .2)) }
+pub back-frame-requires : goal.back-frame-requires
+back-frame-requires g c =
+    let ws = c.args.mem.now in
+    let t = c.args.t in
+    let th = c.requires.there in
+    let ms = memo_in c.args.known c.args.memo ws in
+    let w = drop c.args.memo ws in
+    record { area = c.requires.area; there = back_there ms w t.rows t.frames c.in-Back.n th.0 th.1 (subst (λ n. Doing ms w t.rows t.frames n th.0) c.in-Back.is th.2) }
 
-pub tell-rule-requires : need.tell-rule-requires
-tell-rule-requires g c κs =
-    let ws = c .args .mem .now in
-    let t = c .args .t in
-    let th = c .pre .there in
-    let ms = memo-in (c .args .known) (c .args .memo) ws in
-    let w = drop (c .args .memo) ws in
-    let a = c .in-Tell in
-    let x = tell-there ms w (t .rows) (t .frames) (a .k) (a .n) (a .from) (th .0) (subst (λ n. Doing ms w (t .rows) (t .frames) n (th .0)) (a .is) (th .2)) in
-    let l = length-drop (c .args .memo) ws in
-    let h = c .pre .area .high in
-    let y = tell-row ms w (t .rows) (t .frames) (a .k) (a .n) (a .from) (x .0) (a .k) (x .1) (x .2) (omega (arith, l, h)) (x .3) in
-    let y0 = y .0 in
-    record { area = c .pre .area; runs1 = c .pre .runs1; row = (omega (arith, y0), y .1); told = x }
+pub tell-rule-requires : goal.tell-rule-requires
+tell-rule-requires g c =
+    let ws = c.args.mem.now in
+    let t = c.args.t in
+    let th = c.requires.there in
+    let ms = memo_in c.args.known c.args.memo ws in
+    let w = drop c.args.memo ws in
+    let a = c.in-Tell in
+    let x = tell_there ms w t.rows t.frames a.k a.n a.from th.0 (subst (λ n. Doing ms w t.rows t.frames n th.0) a.is th.2) in
+    let l = length-drop c.args.memo ws in
+    let h = c.requires.area.high in
+    let y = tell_row ms w t.rows t.frames a.k a.n a.from x.0 a.k x.1 x.2 (omega (arith, l, h)) x.3 in
+    let y0 = y.0 in
+    record { area = c.requires.area; runs1 = c.requires.runs1; row = (omega (arith, y0), y.1); told = x }
 
-pub returns-else-is-input : need.returns-else-is-input
+pub returns-else-is-input : goal.returns-else-is-input
 returns-else-is-input g c =
-    let ws = c .args .mem .now in
-    let t = c .args .t in
-    let b = g .R·Rules .book (c .args .rules .now) in
-    let i = g .I·Inputs .given (c .args .inputs .now) (take (c .args .known) ws) in
+    let ws = c.args.mem.now in
+    let t = c.args.t in
+    let b = g.R.Rules.book c.args.rules.now in
+    let i = g.I.Inputs.given c.args.inputs.now (take c.args.known ws) in
     record {
       book1 = refl;
-      runs1 = none-told _ _ _ (c .in-Call .is) refl;
-      says = subst (λ n. TurnSays b i (c .args .known) (c .args .memo) (t .rows) (t .frames) n ws (c .call-kept .last .mem) (c .call-kept .result)) (sym (c .in-Call .is)) (turn-kept b i (c .args .known) (c .args .memo) (t .rows) (t .frames) ws (c .pre .area) (c .in-Call .k) (sym (c .if-is-input .ensures tt)) (c .call-kept .last .mem) (c .call-kept .result) (c .call-kept .ensures));
+      runs1 = none_told _ _ _ c.in-Call.is refl;
+      says = subst (λ n. TurnSays b i c.args.known c.args.memo t.rows t.frames n ws c.call-kept.new.mem c.call-kept.result) (sym c.in-Call.is) (turn_kept b i c.args.known c.args.memo t.rows t.frames ws c.requires.area c.in-Call.k (sym c.if-is-input.ensures) c.call-kept.new.mem c.call-kept.result c.call-kept.ensures);
     }
 
-pub returns-in-Back : need.returns-in-Back
+pub returns-in-Back : goal.returns-in-Back
 returns-in-Back g c =
-    let ws = c .args .mem .now in
-    let t = c .args .t in
-    let b = g .R·Rules .book (c .args .rules .now) in
-    let i = g .I·Inputs .given (c .args .inputs .now) (take (c .args .known) ws) in
+    let ws = c.args.mem.now in
+    let t = c.args.t in
+    let b = g.R.Rules.book c.args.rules.now in
+    let i = g.I.Inputs.given c.args.inputs.now (take c.args.known ws) in
     record {
       book1 = refl;
-      runs1 = none-told _ _ _ (c .in-Back .is) refl;
-      says = subst (λ n. TurnSays b i (c .args .known) (c .args .memo) (t .rows) (t .frames) n ws (c .back-frame .last .mem) (c .back-frame .result)) (sym (c .in-Back .is)) (turn-back b i (c .args .known) (c .args .memo) (t .rows) (t .frames) ws (c .pre .area) (c .in-Back .n) (c .back-frame .last .mem) (c .back-frame .result) (c .back-frame .ensures));
+      runs1 = none_told _ _ _ c.in-Back.is refl;
+      says = subst (λ n. TurnSays b i c.args.known c.args.memo t.rows t.frames n ws c.back-frame.new.mem c.back-frame.result) (sym c.in-Back.is) (turn_back b i c.args.known c.args.memo t.rows t.frames ws c.requires.area c.in-Back.n c.back-frame.new.mem c.back-frame.result c.back-frame.ensures);
     }
 
-pub returns-in-Tell : need.returns-in-Tell
+pub returns-in-Tell : goal.returns-in-Tell
 returns-in-Tell g c =
-    let ws = c .args .mem .now in
-    let t = c .args .t in
-    let b = g .R·Rules .book (c .args .rules .now) in
-    let i = g .I·Inputs .given (c .args .inputs .now) (take (c .args .known) ws) in
-    let a = c .in-Tell in
+    let ws = c.args.mem.now in
+    let t = c.args.t in
+    let b = g.R.Rules.book c.args.rules.now in
+    let i = g.I.Inputs.given c.args.inputs.now (take c.args.known ws) in
+    let a = c.in-Tell in
     record {
-      book1 = c .tell-rule .ensures .book1;
-      runs1 = c .tell-rule .ensures .runs1 ∙ ap (λ n. g .R·Rules .runs (c .args .rules .now) + tellings n) (sym (a .is));
-      says = subst (λ n. TurnSays b i (c .args .known) (c .args .memo) (t .rows) (t .frames) n ws (c .tell-rule .last .mem) (c .tell-rule .result)) (sym (a .is)) (turn-tell b i (c .args .known) (c .args .memo) (t .rows) (t .frames) ws (c .pre .area) (a .k) (a .n) (a .from) (c .tell-rule .last .mem) (c .tell-rule .result) (c .tell-rule .ensures .says));
+      book1 = c.tell-rule.ensures.book1;
+      runs1 = c.tell-rule.ensures.runs1 ∙ ap (λ n. g.R.Rules.runs c.args.rules.now + tellings n) (sym a.is);
+      says = subst (λ n. TurnSays b i c.args.known c.args.memo t.rows t.frames n ws c.tell-rule.new.mem c.tell-rule.result) (sym a.is) (turn_tell b i c.args.known c.args.memo t.rows t.frames ws c.requires.area a.k a.n a.from c.tell-rule.new.mem c.tell-rule.result c.tell-rule.ensures.says);
     }

@@ -1,6 +1,6 @@
--- Asked-again.
-use Rattle·engine·proofs.Promises.{asked-again}
-use Rattle·engine·proofs.theorems.asked_again.Needs as need
+-- AskedAgain.
+use Rattle.engine.proofs.Promises.{asked_again}
+use Rattle.engine.proofs.theorems.asked_again.Goals as goal
 
-pub returns : need.returns
-returns c = asked-again
+pub returns : goal.returns
+returns c = asked_again

@@ -1,6 +1,6 @@
--- Looked-at-once.
-use Rattle·engine·proofs.Promises.{looked-at-once}
-use Rattle·engine·proofs.theorems.looked_at_once.Needs as need
+-- LookedAtOnce.
+use Rattle.engine.proofs.Promises.{looked_at_once}
+use Rattle.engine.proofs.theorems.looked_at_once.Goals as goal
 
-pub returns : need.returns
-returns c = looked-at-once
+pub returns : goal.returns
+returns c = looked_at_once

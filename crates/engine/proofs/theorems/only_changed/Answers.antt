@@ -1,6 +1,6 @@
--- Only-changed.
-use Rattle·engine·proofs.Promises.{only-changed}
-use Rattle·engine·proofs.theorems.only_changed.Needs as need
+-- OnlyChanged.
+use Rattle.engine.proofs.Promises.{only_changed}
+use Rattle.engine.proofs.theorems.only_changed.Goals as goal
 
-pub returns : need.returns
-returns c = only-changed
+pub returns : goal.returns
+returns c = only_changed

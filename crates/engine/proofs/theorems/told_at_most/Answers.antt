@@ -1,6 +1,6 @@
--- Told-at-most.
-use Rattle·engine·proofs.Promises.{told-at-most}
-use Rattle·engine·proofs.theorems.told_at_most.Needs as need
+-- ToldAtMost.
+use Rattle.engine.proofs.Promises.{told_at_most}
+use Rattle.engine.proofs.theorems.told_at_most.Goals as goal
 
-pub returns : need.returns
-returns c = told-at-most
+pub returns : goal.returns
+returns c = told_at_most

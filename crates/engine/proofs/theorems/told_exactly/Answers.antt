@@ -1,6 +1,6 @@
--- Told-exactly.
-use Rattle·engine·proofs.Promises.{told-exactly}
-use Rattle·engine·proofs.theorems.told_exactly.Needs as need
+-- ToldExactly.
+use Rattle.engine.proofs.Promises.{told_exactly}
+use Rattle.engine.proofs.theorems.told_exactly.Goals as goal
 
-pub returns : need.returns
-returns c = told-exactly
+pub returns : goal.returns
+returns c = told_exactly

@@ -1,6 +1,6 @@
--- Up-to-date.
-use Rattle·engine·proofs.Promises.{up-to-date}
-use Rattle·engine·proofs.theorems.up_to_date.Needs as need
+-- UpToDate.
+use Rattle.engine.proofs.Promises.{up_to_date}
+use Rattle.engine.proofs.theorems.up_to_date.Goals as goal
 
-pub returns : need.returns
-returns c = up-to-date
+pub returns : goal.returns
+returns c = up_to_date

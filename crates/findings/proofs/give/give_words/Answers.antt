@@ -1,9 +1,9 @@
-use native.Mathlib.Omega.{arith}
-use Rattle·findings·proofs.Puts.{put-next, put-all}
-use Rattle·findings·proofs.give.give_words.Needs as need
+use Rattle.std.proofs.Common.{arith}
+use Rattle.findings.proofs.Puts.{put_next, put_all}
+use Rattle.findings.proofs.give.give_words.Goals as goal
 
-pub loop-i-again : need.loop-i-again
-loop-i-again c = put-next (c .args .words .now) (c .loop-i .i) (c .args .k) (c .args .out .now) (c .loop-i .out) (omega arith) (omega (arith, c .loop-i .inv .long)) (c .loop-i .inv)
+pub loop-i-preserved : goal.loop-i-preserved
+loop-i-preserved c = put_next c.args.words.now c.loop-i.i c.args.k c.args.out.now c.loop-i.out (omega arith) (omega (arith, c.loop-i.invariant.long)) c.loop-i.invariant
 
-pub returns : need.returns
-returns c = put-all (c .args .words .now) (c .loop-i .i) (c .args .k) (c .args .out .now) (c .loop-i .out) (omega arith) (c .loop-i .inv)
+pub returns : goal.returns
+returns c = put_all c.args.words.now c.loop-i.i c.args.k c.args.out.now c.loop-i.out (omega arith) c.loop-i.invariant

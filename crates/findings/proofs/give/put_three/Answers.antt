@@ -1,10 +1,9 @@
-use Prim.Native.Nat.{_+_}
-use lib.ListN.{getD}
-use Rattle·findings·proofs.Puts.{put-three}
-use Rattle·findings·proofs.give.put_three.Needs as need
+use Rattle.std.proofs.Common.{◌+◌, get_or}
+use Rattle.findings.proofs.Puts.{put_three}
+use Rattle.findings.proofs.give.put_three.Goals as goal
 
-pub returns : need.returns
+pub returns : goal.returns
 returns c =
-    let ws = c .args .words .now in
-    let i = c .args .i in
-    put-three (getD ws i 0 + getD ws (i + 1) 0) (getD ws i 0 + getD ws (i + 2) 0) (getD ws (i + 3) 0) (c .args .j) (c .args .out .now) (c .pre .writes)
+    let ws = c.args.words.now in
+    let i = c.args.i in
+    put_three (get_or ws i 0 + get_or ws (i + 1) 0) (get_or ws i 0 + get_or ws (i + 2) 0) (get_or ws (i + 3) 0) c.args.j c.args.out.now c.requires.writes

@@ -1,13 +1,12 @@
-use mathlib.Core.Path.{sym}
-use native.Mathlib.Omega.{arith}
-use Rattle·findings·proofs.Reached.{no-link, elsewhere, reached}
-use Rattle·findings·proofs.links.link_at.Needs as need
+use Rattle.std.proofs.Common.{sym, arith}
+use Rattle.findings.proofs.Reached.{no_link, elsewhere, reached}
+use Rattle.findings.proofs.links.link_at.Goals as goal
 
-pub loop-i-again-in-rest : need.loop-i-again-in-rest
-loop-i-again-in-rest c = no-link (c .args .words .now) (c .args .f .at) (c .args .place) (c .loop-i .i) (c .loop-i .inv) (c .in-rest .ensures tt)
+pub loop-i-preserved-in-default : goal.loop-i-preserved-in-default
+loop-i-preserved-in-default c = no_link c.args.words.now c.args.f.at c.args.place c.loop-i.i c.loop-i.invariant c.in-default.ensures
 
-pub returns-then-is-around : need.returns-then-is-around
-returns-then-is-around c = reached (c .args .words .now) (c .args .f .at) (c .args .place) (c .loop-i .i) (c .loop-i .inv) (c .in-Some .x) (c .in-Some .ensures tt) (c .args .f .count) (omega arith) (sym (c .if-is-around .ensures tt))
+pub returns-then-is-around : goal.returns-then-is-around
+returns-then-is-around c = reached c.args.words.now c.args.f.at c.args.place c.loop-i.i c.loop-i.invariant c.in-Some.x c.in-Some.ensures c.args.f.count (omega arith) (sym c.if-is-around.ensures)
 
-pub loop-i-again : need.loop-i-again
-loop-i-again c = elsewhere (c .args .words .now) (c .args .f .at) (c .args .place) (c .loop-i .i) (c .loop-i .inv) (c .in-Some .x) (c .in-Some .ensures tt) (sym (c .if-is-around .ensures tt))
+pub loop-i-preserved : goal.loop-i-preserved
+loop-i-preserved c = elsewhere c.args.words.now c.args.f.at c.args.place c.loop-i.i c.loop-i.invariant c.in-Some.x c.in-Some.ensures (sym c.if-is-around.ensures)

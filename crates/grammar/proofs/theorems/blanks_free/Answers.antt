@@ -1,6 +1,6 @@
--- Blanks-free.
-use Rattle·grammar·proofs.Blanks.{blanks-free}
-use Rattle·grammar·proofs.theorems.blanks_free.Needs as need
+-- BlanksFree.
+use Rattle.grammar.proofs.Blanks.{blanks_free}
+use Rattle.grammar.proofs.theorems.blanks_free.Goals as goal
 
-pub returns : need.returns
-returns c = blanks-free
+pub returns : goal.returns
+returns c = blanks_free

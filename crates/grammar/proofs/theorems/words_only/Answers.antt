@@ -1,6 +1,6 @@
--- Words-only.
-use Rattle·grammar·proofs.Bare.{words-only}
-use Rattle·grammar·proofs.theorems.words_only.Needs as need
+-- WordsOnly.
+use Rattle.grammar.proofs.Bare.{words_only}
+use Rattle.grammar.proofs.theorems.words_only.Goals as goal
 
-pub returns : need.returns
-returns c = words-only
+pub returns : goal.returns
+returns c = words_only

@@ -1,6 +1,6 @@
--- Wrong-place.
-use Rattle·grammar·proofs.Places.{wrong-place}
-use Rattle·grammar·proofs.theorems.wrong_place.Needs as need
+-- WrongPlace.
+use Rattle.grammar.proofs.Places.{wrong_place}
+use Rattle.grammar.proofs.theorems.wrong_place.Goals as goal
 
-pub returns : need.returns
-returns c = wrong-place
+pub returns : goal.returns
+returns c = wrong_place

@@ -1,7 +1,6 @@
-use mathlib.Core.Path.{ap, _∙_}
-use lib.ListN.{take}
-use Rattle·helper·proofs.Steps.{take-min}
-use Rattle·helper·proofs.run.front.Needs as need
+use Rattle.std.proofs.Common.{take, ap, ◌∙◌}
+use Rattle.helper.proofs.Steps.{take_min}
+use Rattle.helper.proofs.run.front.Goals as goal
 
-pub returns : need.returns
-returns c = ap (λ k. take k (c .args .words .now)) (c .min .ensures) ∙ take-min (c .args .n) (c .args .words .now)
+pub returns : goal.returns
+returns c = ap (λ k. take k c.args.words.now) c.min.ensures ∙ take_min c.args.n c.args.words.now

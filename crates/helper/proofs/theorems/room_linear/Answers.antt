@@ -1,5 +1,5 @@
-use Rattle·helper·proofs.Rooms.{room-le}
-use Rattle·helper·proofs.theorems.room_linear.Needs as need
+use Rattle.helper.proofs.Rooms.{room_le}
+use Rattle.helper.proofs.theorems.room_linear.Goals as goal
 
-pub returns : need.returns
-returns c = room-le
+pub returns : goal.returns
+returns c = room_le

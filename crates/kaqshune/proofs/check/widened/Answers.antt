@@ -1,10 +1,9 @@
-use mathlib.Core.Path.{sym, _∙_}
-use Rattle·std.specs.Of.Vec.{vec-items}
-use Rattle·kaqshune·proofs.Widen.{one-more, take-all}
-use Rattle·kaqshune·proofs.check.widened.Needs as need
+use Rattle.std.proofs.Common.{vec_items, sym, ◌∙◌}
+use Rattle.kaqshune.proofs.Widen.{one_more, take_all}
+use Rattle.kaqshune.proofs.check.widened.Goals as goal
 
-pub loop-b-again : need.loop-b-again
-loop-b-again c = one-more (vec-items (c .loop-b .words)) (c .args .bytes .now) (vec-items (c .push .last .self)) (c .loop-b .b-index) (c .from .result) (c .loop-b-test .taken) (c .loop-b .inv) (c .from .ensures) (c .in-Continue-push .ensures tt .items)
+pub loop-b-preserved : goal.loop-b-preserved
+loop-b-preserved c = one_more (vec_items c.loop-b.words) c.args.bytes.now (vec_items c.push.new.self) c.loop-b.b-index c.from.result c.loop-b-test.true c.loop-b.invariant c.from.ensures c.in-ok-push.ensures.items
 
-pub returns : need.returns
-returns c = c .loop-b .inv ∙ take-all (c .args .bytes .now) (c .loop-b .b-index) (c .loop-b-test .left)
+pub returns : goal.returns
+returns c = c.loop-b.invariant ∙ take_all c.args.bytes.now c.loop-b.b-index c.loop-b-test.false

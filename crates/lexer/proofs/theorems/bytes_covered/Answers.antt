@@ -1,5 +1,5 @@
-use Rattle·lexer·proofs.Covers.{bytes-covered}
-use Rattle·lexer·proofs.theorems.bytes_covered.Needs as need
+use Rattle.lexer.proofs.Covers.{bytes_covered}
+use Rattle.lexer.proofs.theorems.bytes_covered.Goals as goal
 
-pub returns : need.returns
-returns c = bytes-covered
+pub returns : goal.returns
+returns c = bytes_covered

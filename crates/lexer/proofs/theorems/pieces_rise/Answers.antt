@@ -1,5 +1,5 @@
-use Rattle·lexer·proofs.Rises.{pieces-rise}
-use Rattle·lexer·proofs.theorems.pieces_rise.Needs as need
+use Rattle.lexer.proofs.Rises.{pieces_rise}
+use Rattle.lexer.proofs.theorems.pieces_rise.Goals as goal
 
-pub returns : need.returns
-returns c = pieces-rise
+pub returns : goal.returns
+returns c = pieces_rise

@@ -1,9 +1,9 @@
 -- What is proved by hand of bucket_of.
-use mathlib.Core.Path.{refl}
-use Rattle·memo·specs.Log.{bucket}
-use Rattle·memo·proofs.Chains.{bucket-lt}
-use Rattle·memo·proofs.chain.bucket_of.Needs as need
+use Rattle.std.proofs.Common.{refl}
+use Rattle.memo.specs.Log.{bucket}
+use Rattle.memo.proofs.Chains.{bucket_lt}
+use Rattle.memo.proofs.chain.bucket_of.Goals as goal
 
-pub returns : need.returns
+pub returns : goal.returns
 unfolding bucket
-returns c = record { is = refl; below = bucket-lt (c .args .k .now) (c .args .buckets) (c .pre) }
+returns c = record { is = refl; below = bucket_lt c.args.k.now c.args.buckets c.requires }

@@ -1,53 +1,50 @@
 -- What is proved by hand of oldest.
-use mathlib.Core.Path.{_≡_, refl, sym, ap, subst, _∙_}
-use mathlib.Core.Bool.{not}
-use native.Mathlib.Omega.{arith}
-use lib.ListN.{getD}
-use Rattle·base.specs.Base.{is-some}
-use Rattle·engine.specs.Engine.{same-key, find}
-use Rattle·memo·specs.Record.{older, deep, key-of, records}
-use Rattle·memo·proofs.Chains.{Found}
-use Rattle·memo·proofs.Places.{stands}
-use Rattle·memo·proofs.Oldest.{under-begins, under-record, under-falls, under-next, under-some, under-none}
-use Rattle·memo·proofs.chain.oldest.Needs as need
+use Rattle.std.proofs.Common.{◌≡◌, not, get_or, sym, refl, ap, ◌∙◌, subst, arith}
+use Rattle.base.specs.Base.{is_some}
+use Rattle.engine.specs.Engine.{same_key, find}
+use Rattle.memo.specs.Record.{older, deep, key_of, records}
+use Rattle.memo.proofs.Chains.{Found}
+use Rattle.memo.proofs.Places.{stands}
+use Rattle.memo.proofs.Oldest.{under_begins, under_record, under_falls, under_next, under_some, under_none}
+use Rattle.memo.proofs.chain.oldest.Goals as goal
 
-pub key-at-k-requires : need.key-at-k-requires
-key-at-k-requires c κs = let s = stands (c .args .words .now) (c .args .d) (c .pre .0) (c .pre .1) in (omega arith, omega arith)
+pub key-at-k-requires : goal.key-at-k-requires
+key-at-k-requires c = let s = stands c.args.words.now c.args.d c.requires.0 c.requires.1 in (omega arith, omega arith)
 
-pub word-e-requires : need.word-e-requires
-word-e-requires c κs = let s = stands (c .args .words .now) (c .args .d) (c .pre .0) (c .pre .1) in (omega arith, omega arith)
+pub word-e-requires : goal.word-e-requires
+word-e-requires c = let s = stands c.args.words.now c.args.d c.requires.0 c.requires.1 in (omega arith, omega arith)
 
-pub loop-e-holds : need.loop-e-holds
-loop-e-holds c = λ x.
-    subst (λ k. Found (getD (c .args .words .now) 2 0) (x .count) (older (deep (c .args .d) (c .args .words .now))) k (c .word-e .result)) (sym (c .key-at-k .ensures))
-    (subst (Found (getD (c .args .words .now) 2 0) (x .count) (older (deep (c .args .d) (c .args .words .now))) (key-of (deep (c .args .d) (c .args .words .now)))) (sym (c .word-e .ensures)) (under-begins (c .args .words .now) (c .pre .0) (c .args .d) x))
+pub loop-e-init : goal.loop-e-init
+loop-e-init c = λ x.
+    subst (λ k. Found (get_or c.args.words.now 2 0) x.count (older (deep c.args.d c.args.words.now)) k c.word-e.result) (sym c.key-at-k.ensures)
+    (subst (Found (get_or c.args.words.now 2 0) x.count (older (deep c.args.d c.args.words.now)) (key_of (deep c.args.d c.args.words.now))) (sym c.word-e.ensures) (under_begins c.args.words.now c.requires.0 c.args.d x))
 
-pub key-at-requires : need.key-at-requires
-key-at-requires c κs = let s = stands (c .args .words .now) (c .loop-e .e) (c .pre .0) (under-record (c .args .words .now) (c .pre .0) (c .args .d) (c .pre .1) (c .key-at-k .result) (c .loop-e .e) (c .loop-e .inv (c .pre .1)) (c .loop-e-test .taken)) in (omega arith, omega arith)
+pub key-at-requires : goal.key-at-requires
+key-at-requires c = let s = stands c.args.words.now c.loop-e.e c.requires.0 (under_record c.args.words.now c.requires.0 c.args.d c.requires.1 c.key-at-k.result c.loop-e.e (c.loop-e.invariant c.requires.1) c.loop-e-test.true) in (omega arith, omega arith)
 
-pub returns-then-same-key : need.returns-then-same-key
+pub returns-then-same-key : goal.returns-then-same-key
 returns-then-same-key c =
     record {
       is = λ x.
-          sym (ap (λ k. not (is-some (find (records (x .count) (older (deep (c .args .d) (c .args .words .now)))) k))) (sym (c .key-at-k .ensures)) ∙
-          ap (λ o. not (is-some o)) (under-some (c .args .words .now) (c .pre .0) (c .args .d) x (c .key-at-k .result) (c .loop-e .e) (c .loop-e .inv x) (c .loop-e-test .taken) (ap (λ j. same-key j (c .key-at-k .result)) (sym (c .key-at .ensures)) ∙ sym (c .if-same-key .ensures tt))));
+          sym (ap (λ k. not (is_some (find (records x.count (older (deep c.args.d c.args.words.now))) k))) (sym c.key-at-k.ensures) ∙
+          ap (λ o. not (is_some o)) (under_some c.args.words.now c.requires.0 c.args.d x c.key-at-k.result c.loop-e.e (c.loop-e.invariant x) c.loop-e-test.true (ap (λ j. same_key j c.key-at-k.result) (sym c.key-at.ensures) ∙ sym c.if-same-key.ensures)));
     }
 
-pub word-e-requires-in-loop-e : need.word-e-requires-in-loop-e
-word-e-requires-in-loop-e c κs = let s = stands (c .args .words .now) (c .loop-e .e) (c .pre .0) (under-record (c .args .words .now) (c .pre .0) (c .args .d) (c .pre .1) (c .key-at-k .result) (c .loop-e .e) (c .loop-e .inv (c .pre .1)) (c .loop-e-test .taken)) in (omega arith, omega arith)
+pub word-e-requires-in-loop-e : goal.word-e-requires-in-loop-e
+word-e-requires-in-loop-e c = let s = stands c.args.words.now c.loop-e.e c.requires.0 (under_record c.args.words.now c.requires.0 c.args.d c.requires.1 c.key-at-k.result c.loop-e.e (c.loop-e.invariant c.requires.1) c.loop-e-test.true) in (omega arith, omega arith)
 
-pub loop-e-less : need.loop-e-less
-loop-e-less c = let e = c .word-e-in-loop-e .ensures in let f = under-falls (c .args .words .now) (c .pre .0) (c .args .d) (c .pre .1) (c .key-at-k .result) (c .loop-e .e) (c .loop-e .inv (c .pre .1)) (c .loop-e-test .taken) in omega arith
+pub loop-e-smaller : goal.loop-e-smaller
+loop-e-smaller c = let e = c.word-e-in-loop-e.ensures in let f = under_falls c.args.words.now c.requires.0 c.args.d c.requires.1 c.key-at-k.result c.loop-e.e (c.loop-e.invariant c.requires.1) c.loop-e-test.true in omega arith
 
-pub loop-e-again : need.loop-e-again
-loop-e-again c = λ x.
-    subst (Found (getD (c .args .words .now) 2 0) (x .count) (older (deep (c .args .d) (c .args .words .now))) (c .key-at-k .result)) (sym (c .word-e-in-loop-e .ensures))
-    (under-next (c .args .words .now) (c .pre .0) (c .args .d) x (c .key-at-k .result) (c .loop-e .e) (c .loop-e .inv x) (c .loop-e-test .taken) (ap (λ j. same-key j (c .key-at-k .result)) (sym (c .key-at .ensures)) ∙ sym (c .if-same-key .ensures tt)))
+pub loop-e-preserved : goal.loop-e-preserved
+loop-e-preserved c = λ x.
+    subst (Found (get_or c.args.words.now 2 0) x.count (older (deep c.args.d c.args.words.now)) c.key-at-k.result) (sym c.word-e-in-loop-e.ensures)
+    (under_next c.args.words.now c.requires.0 c.args.d x c.key-at-k.result c.loop-e.e (c.loop-e.invariant x) c.loop-e-test.true (ap (λ j. same_key j c.key-at-k.result) (sym c.key-at.ensures) ∙ sym c.if-same-key.ensures))
 
-pub returns : need.returns
+pub returns : goal.returns
 returns c =
     record {
       is = λ x.
-          sym (ap (λ k. not (is-some (find (records (x .count) (older (deep (c .args .d) (c .args .words .now)))) k))) (sym (c .key-at-k .ensures)) ∙
-          ap (λ o. not (is-some o)) (under-none (c .args .words .now) (c .pre .0) (c .args .d) x (c .key-at-k .result) (subst (Found (getD (c .args .words .now) 2 0) (x .count) (older (deep (c .args .d) (c .args .words .now))) (c .key-at-k .result)) (c .loop-e-test .left) (c .loop-e .inv x))));
+          sym (ap (λ k. not (is_some (find (records x.count (older (deep c.args.d c.args.words.now))) k))) (sym c.key-at-k.ensures) ∙
+          ap (λ o. not (is_some o)) (under_none c.args.words.now c.requires.0 c.args.d x c.key-at-k.result (subst (Found (get_or c.args.words.now 2 0) x.count (older (deep c.args.d c.args.words.now)) c.key-at-k.result) c.loop-e-test.false (c.loop-e.invariant x))));
     }

@@ -1,6 +1,6 @@
 -- What is proved by hand of first.
-use Rattle·memo·proofs.Gots.{first-got}
-use Rattle·memo·proofs.entry.first.Needs as need
+use Rattle.memo.proofs.Gots.{first_got}
+use Rattle.memo.proofs.entry.first.Goals as goal
 
-pub returns : need.returns
-returns c = first-got (c .args .words .now) (c .args .d) (c .pre .0) (c .pre .1)
+pub returns : goal.returns
+returns c = first_got c.args.words.now c.args.d c.requires.0 c.requires.1

@@ -1,53 +1,50 @@
 -- What is proved by hand of pop.
-use mathlib.Core.Path.{_≡_, sym, ap, subst, _∙_}
-use Prim.Native.Nat.{ℕ, suc, _-_}
-use native.Mathlib.Omega.{arith}
-use lib.ListN.{length, getD}
-use Rattle·memo·specs.Log.{Fits, pointed, bucket}
-use Rattle·memo·specs.Says.{Popped}
-use Rattle·memo·proofs.Pops.{sized, pop-fits, pop-popped}
-use Rattle·memo·proofs.mark.pop.Needs as need
+use Rattle.std.proofs.Common.{◌≡◌, ℕ, suc, ◌-◌, length, get_or, sym, ap, ◌∙◌, subst, arith}
+use Rattle.memo.specs.Log.{Fits, pointed, bucket}
+use Rattle.memo.specs.Says.{Popped}
+use Rattle.memo.proofs.Pops.{sized, pop_fits, pop_popped}
+use Rattle.memo.proofs.mark.pop.Goals as goal
 
-pub size-at-size-requires : need.size-at-size-requires
-size-at-size-requires c κs =
-    let ws = c .args .words .now in
-    let p = c .pre .1 in
-    let r = c .pre .0 .room in
-    let s = sized ws (c .pre .0) (getD ws 1 0 - 1) (omega arith) in
+pub size-at-size-requires : goal.size-at-size-requires
+size-at-size-requires c =
+    let ws = c.args.words.now in
+    let p = c.requires.1 in
+    let r = c.requires.0.room in
+    let s = sized ws c.requires.0 (get_or ws 1 0 - 1) (omega arith) in
     (omega arith, omega arith)
 
-pub key-at-requires : need.key-at-requires
-key-at-requires c κs =
-    let ws = c .args .words .now in
-    let p = c .pre .1 in
-    let r = c .pre .0 .room in
-    let s = sized ws (c .pre .0) (getD ws 1 0 - 1) (omega arith) in
+pub key-at-requires : goal.key-at-requires
+key-at-requires c =
+    let ws = c.args.words.now in
+    let p = c.requires.1 in
+    let r = c.requires.0.room in
+    let s = sized ws c.requires.0 (get_or ws 1 0 - 1) (omega arith) in
     (omega arith, omega arith)
 
-pub word-prev-requires : need.word-prev-requires
-word-prev-requires c κs =
-    let ws = c .args .words .now in
-    let p = c .pre .1 in
-    let r = c .pre .0 .room in
-    let s = sized ws (c .pre .0) (getD ws 1 0 - 1) (omega arith) in
+pub word-prev-requires : goal.word-prev-requires
+word-prev-requires c =
+    let ws = c.args.words.now in
+    let p = c.requires.1 in
+    let r = c.requires.0.room in
+    let s = sized ws c.requires.0 (get_or ws 1 0 - 1) (omega arith) in
     (omega arith, omega arith)
 
-pub sub-depth : need.sub-depth
-sub-depth c =
-    let ws = c .args .words .now in
-    let p = c .pre .1 in
-    let e = c .size-at-size .ensures in
-    let s = sized ws (c .pre .0) (getD ws 1 0 - 1) (omega arith) in
+pub overflow-sub-depth : goal.overflow-sub-depth
+overflow-sub-depth c =
+    let ws = c.args.words.now in
+    let p = c.requires.1 in
+    let e = c.size-at-size.ensures in
+    let s = sized ws c.requires.0 (get_or ws 1 0 - 1) (omega arith) in
     omega arith
 
-pub returns : need.returns
+pub returns : goal.returns
 returns c =
-    let ws = c .args .words .now in
-    let p = c .pre .1 in
-    let n = getD ws 1 0 - 1 in
-    let en : getD ws 1 0 ≡ suc n = omega arith in
-    let eb = c .bucket-of-b .ensures .is ∙ ap (λ k. bucket k (getD ws 2 0)) (c .key-at .ensures) in
-    let ep = c .word-prev .ensures in
-    let es = c .size-at-size .ensures in
-    let e = c .point .ensures ∙ (λ t. pointed ws (eb t) (ep t) (getD ws 0 0 - es t) n) in
-    record { fits = subst Fits (sym e) (pop-fits ws (c .pre .0) n en); popped = subst (Popped ws) (sym e) (pop-popped ws (c .pre .0) n en) }
+    let ws = c.args.words.now in
+    let p = c.requires.1 in
+    let n = get_or ws 1 0 - 1 in
+    let en : get_or ws 1 0 ≡ suc n = omega arith in
+    let eb = c.bucket-of-b.ensures.is ∙ ap (λ k. bucket k (get_or ws 2 0)) c.key-at.ensures in
+    let ep = c.word-prev.ensures in
+    let es = c.size-at-size.ensures in
+    let e = c.point.ensures ∙ (λ t. pointed ws (eb t) (ep t) (get_or ws 0 0 - es t) n) in
+    record { fits = subst Fits (sym e) (pop_fits ws c.requires.0 n en); popped = subst (Popped ws) (sym e) (pop_popped ws c.requires.0 n en) }

@@ -1,26 +1,25 @@
 -- What is proved by hand of roll_back.
-use mathlib.Core.Path.{_∙_, refl}
-use native.Mathlib.Omega.{arith}
-use Rattle·memo·proofs.Pops.{came-back, still-marked, some-record}
-use Rattle·memo·proofs.mark.roll_back.Needs as need
+use Rattle.std.proofs.Common.{refl, ◌∙◌, arith}
+use Rattle.memo.proofs.Pops.{came_back, still_marked, some_record}
+use Rattle.memo.proofs.mark.roll_back.Goals as goal
 
-pub loop-words-holds : need.loop-words-holds
-loop-words-holds c = (c .pre .0, c .pre .1, refl)
+pub loop-words-init : goal.loop-words-init
+loop-words-init c = (c.requires.0, c.requires.1, refl)
 
-pub loop-words-again : need.loop-words-again
-loop-words-again c =
-    let s = still-marked (c .loop-words .words) (c .pop .last .words) (c .args .mark) (c .loop-words .inv .0) (c .loop-words .inv .1) (c .loop-words-test .taken) (c .pop .ensures .popped) in
-    (c .pop .ensures .fits, s .0, s .1 ∙ c .loop-words .inv .2)
+pub loop-words-preserved : goal.loop-words-preserved
+loop-words-preserved c =
+    let s = still_marked c.loop-words.words c.pop.new.words c.args.mark c.loop-words.invariant.0 c.loop-words.invariant.1 c.loop-words-test.true c.pop.ensures.popped in
+    (c.pop.ensures.fits, s.0, s.1 ∙ c.loop-words.invariant.2)
 
-pub loop-words-less : need.loop-words-less
-loop-words-less c = c .pop .ensures .popped .shorter
+pub loop-words-smaller : goal.loop-words-smaller
+loop-words-smaller c = c.pop.ensures.popped.shorter
 
-pub pop-requires : need.pop-requires
-pop-requires c κs = (c .loop-words .inv .0, some-record (c .loop-words .words) (c .args .mark) (c .loop-words .inv .0) (c .loop-words .inv .1) (c .loop-words-test .taken))
+pub pop-requires : goal.pop-requires
+pop-requires c = (c.loop-words.invariant.0, some_record c.loop-words.words c.args.mark c.loop-words.invariant.0 c.loop-words.invariant.1 c.loop-words-test.true)
 
-pub returns : need.returns
+pub returns : goal.returns
 returns c =
     record {
-      fits = c .loop-words .inv .0;
-      is = came-back (c .loop-words .words) (c .args .mark) (c .loop-words .inv .0) (c .loop-words .inv .1) (c .loop-words-test .left) ∙ c .loop-words .inv .2;
+      fits = c.loop-words.invariant.0;
+      is = came_back c.loop-words.words c.args.mark c.loop-words.invariant.0 c.loop-words.invariant.1 c.loop-words-test.false ∙ c.loop-words.invariant.2;
     }

@@ -1,6 +1,6 @@
 -- What is proved by hand of word.
-use Rattle·memo·proofs.Places.{deep-word}
-use Rattle·memo·proofs.record.word.Needs as need
+use Rattle.memo.proofs.Places.{deep_word}
+use Rattle.memo.proofs.record.word.Goals as goal
 
-pub returns : need.returns
-returns c = deep-word (c .args .words .now) (c .args .d) (c .args .i)
+pub returns : goal.returns
+returns c = deep_word c.args.words.now c.args.d c.args.i

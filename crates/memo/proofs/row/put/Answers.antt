@@ -1,7 +1,7 @@
 -- What is proved by hand of put.
-use native.Mathlib.Omega.{arith}
-use Rattle·memo·proofs.Puts.{putMid-puts}
-use Rattle·memo·proofs.row.put.Needs as need
+use Rattle.std.proofs.Common.{arith}
+use Rattle.memo.proofs.Puts.{putMid_puts}
+use Rattle.memo.proofs.row.put.Goals as goal
 
-pub returns : need.returns
-returns c = putMid-puts (c .args .i) _ (c .args .words .now) (c .copy-from-slice .last .self) (c .args .xs .now) (c .copy-from-slice .ensures .after) (omega arith)
+pub returns : goal.returns
+returns c = putMid_puts c.args.i _ c.args.words.now c.copy-from-slice.new.self c.args.xs.now c.copy-from-slice.ensures.after (omega arith)

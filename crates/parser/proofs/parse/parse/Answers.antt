@@ -1,38 +1,37 @@
-use mathlib.Core.Path.{_∙_}
-use native.Mathlib.Omega.{arith}
-use Rattle·parser·specs.declared.turn.Bounds.{Bounds}
-use Rattle·parser·proofs.Loop.{starts, ready, few-waiting, onwards, lessens, reads-it, reads-bad}
-use Rattle·parser·proofs.parse.parse.Needs as need
+use Rattle.std.proofs.Common.{◌∙◌, arith}
+use Rattle.parser.specs.declared.turn.Bounds.{Bounds}
+use Rattle.parser.proofs.Loop.{starts, ready, few_waiting, onwards, lessens, reads_it, reads_bad}
+use Rattle.parser.proofs.parse.parse.Goals as goal
 
-pub loop-m-holds : need.loop-m-holds
-loop-m-holds c =
-    let b : Bounds = record { len = c .args .len; base = c .args .base } in
-    let r = c .pre .room in
-    starts b (c .args .from) (c .args .words .now) (c .pre .begins) (omega arith)
+pub loop-m-init : goal.loop-m-init
+loop-m-init c =
+    let b : Bounds = record { len = c.args.len; base = c.args.base } in
+    let r = c.requires.room in
+    starts b c.args.from c.args.words.now c.requires.begins (omega arith)
 
-pub advance-requires : need.advance-requires
-advance-requires c κs =
-    let b : Bounds = record { len = c .args .len; base = c .args .base } in (
-      ready b (c .args .from) (c .args .words .now) (c .loop-m .words) (c .loop-m .phase) (c .loop-m .p) (c .pre .before) (c .pre .short) (c .pre .room) (c .loop-m .kept .words) (c .loop-m .inv),
-      few-waiting b (c .args .from) (c .args .words .now) (c .loop-m .words) (c .loop-m .phase) (c .loop-m .p) (c .pre .before) (c .pre .short) (c .pre .room) (c .loop-m .kept .words) (c .loop-m .inv),
+pub advance-requires : goal.advance-requires
+advance-requires c =
+    let b : Bounds = record { len = c.args.len; base = c.args.base } in (
+      ready b c.args.from c.args.words.now c.loop-m.words c.loop-m.phase c.loop-m.p c.requires.before c.requires.short c.requires.room c.loop-m.auto.words c.loop-m.invariant,
+      few_waiting b c.args.from c.args.words.now c.loop-m.words c.loop-m.phase c.loop-m.p c.requires.before c.requires.short c.requires.room c.loop-m.auto.words c.loop-m.invariant,
     )
 
-pub loop-m-less : need.loop-m-less
-loop-m-less c =
-    let b : Bounds = record { len = c .args .len; base = c .args .base } in
-    lessens b (c .args .from) (c .args .words .now) (c .loop-m .words) (c .advance .last .words) (c .loop-m .phase) (c .loop-m .p) (c .pre .before) (c .loop-m .inv) (c .in-Go .m) (c .in-Go .q) (c .in-Go .ensures tt)
+pub loop-m-smaller : goal.loop-m-smaller
+loop-m-smaller c =
+    let b : Bounds = record { len = c.args.len; base = c.args.base } in
+    lessens b c.args.from c.args.words.now c.loop-m.words c.advance.new.words c.loop-m.phase c.loop-m.p c.requires.before c.loop-m.invariant c.in-Go.m c.in-Go.q c.in-Go.ensures
 
-pub loop-m-again : need.loop-m-again
-loop-m-again c =
-    let b : Bounds = record { len = c .args .len; base = c .args .base } in
-    onwards b (c .args .from) (c .args .words .now) (c .loop-m .words) (c .advance .last .words) (c .loop-m .phase) (c .loop-m .p) (c .pre .before) (c .loop-m .inv) (c .in-Go .m) (c .in-Go .q) (c .in-Go .ensures tt)
+pub loop-m-preserved : goal.loop-m-preserved
+loop-m-preserved c =
+    let b : Bounds = record { len = c.args.len; base = c.args.base } in
+    onwards b c.args.from c.args.words.now c.loop-m.words c.advance.new.words c.loop-m.phase c.loop-m.p c.requires.before c.loop-m.invariant c.in-Go.m c.in-Go.q c.in-Go.ensures
 
-pub returns-in-Won : need.returns-in-Won
+pub returns-in-Won : goal.returns-in-Won
 returns-in-Won c =
-    let b : Bounds = record { len = c .args .len; base = c .args .base } in
-    record { kept = c .advance .ensures .kept ∙ c .loop-m .inv .kept; reads = reads-it b (c .args .from) (c .args .words .now) (c .loop-m .words) (c .advance .last .words) (c .loop-m .phase) (c .loop-m .p) (c .pre .before) (c .loop-m .inv) (c .in-Won .q) (c .in-Won .ensures tt) }
+    let b : Bounds = record { len = c.args.len; base = c.args.base } in
+    record { kept = c.advance.ensures.kept ∙ c.loop-m.invariant.kept; reads = reads_it b c.args.from c.args.words.now c.loop-m.words c.advance.new.words c.loop-m.phase c.loop-m.p c.requires.before c.loop-m.invariant c.in-Won.q c.in-Won.ensures }
 
-pub returns-in-Lost : need.returns-in-Lost
+pub returns-in-Lost : goal.returns-in-Lost
 returns-in-Lost c =
-    let b : Bounds = record { len = c .args .len; base = c .args .base } in
-    record { kept = c .advance .ensures .kept ∙ c .loop-m .inv .kept; reads = reads-bad b (c .args .from) (c .args .words .now) (c .loop-m .words) (c .advance .last .words) (c .loop-m .phase) (c .loop-m .p) (c .pre .before) (c .loop-m .inv) (c .in-Lost .a) (c .in-Lost .ensures tt) }
+    let b : Bounds = record { len = c.args.len; base = c.args.base } in
+    record { kept = c.advance.ensures.kept ∙ c.loop-m.invariant.kept; reads = reads_bad b c.args.from c.args.words.now c.loop-m.words c.advance.new.words c.loop-m.phase c.loop-m.p c.requires.before c.loop-m.invariant c.in-Lost.a c.in-Lost.ensures }

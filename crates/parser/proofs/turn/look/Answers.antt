@@ -1,15 +1,14 @@
-use native.Mathlib.Omega.{arith}
-use lib.ListN.{take}
-use Rattle·std.proofs.shelf.Lists.{length-take-le}
-use Rattle·parser·proofs.Ways.{stands-fit}
-use Rattle·parser·proofs.turn.look.Needs as need
+use Rattle.std.proofs.Common.{take, arith}
+use Rattle.std.proofs.lemmas.List.{length-take-le}
+use Rattle.parser.proofs.Ways.{stands_fit}
+use Rattle.parser.proofs.turn.look.Goals as goal
 
-pub cast-result : need.cast-result
-cast-result c =
-    let s = stands-fit (c .peek-s .result .token) (take (c .args .len) (c .args .words .now)) (c .args .len) (c .args .at) (c .peek-s .result .from) (c .peek-s .result .to) (c .peek-s .ensures .place) (length-take-le (c .args .len) (c .args .words .now) (c .pre .0)) (c .pre .1 .0) (c .pre .1 .1) in
-    omega (arith, s .0)
+pub overflow-cast-result : goal.overflow-cast-result
+overflow-cast-result c =
+    let s = stands_fit c.peek-s.result.token (take c.args.len c.args.words.now) c.args.len c.args.at c.peek-s.result.from c.peek-s.result.to c.peek-s.ensures.place (length-take-le c.args.len c.args.words.now c.requires.0) c.requires.1.0 c.requires.1.1 in
+    omega (arith, s.0)
 
-pub cast-result-2 : need.cast-result-2
-cast-result-2 c =
-    let s = stands-fit (c .peek-s .result .token) (take (c .args .len) (c .args .words .now)) (c .args .len) (c .args .at) (c .peek-s .result .from) (c .peek-s .result .to) (c .peek-s .ensures .place) (length-take-le (c .args .len) (c .args .words .now) (c .pre .0)) (c .pre .1 .0) (c .pre .1 .1) in
-    omega (arith, s .1)
+pub overflow-cast-result-2 : goal.overflow-cast-result-2
+overflow-cast-result-2 c =
+    let s = stands_fit c.peek-s.result.token (take c.args.len c.args.words.now) c.args.len c.args.at c.peek-s.result.from c.peek-s.result.to c.peek-s.ensures.place (length-take-le c.args.len c.args.words.now c.requires.0) c.requires.1.0 c.requires.1.1 in
+    omega (arith, s.1)

@@ -1,32 +1,31 @@
-use mathlib.Core.Path.{refl}
-use native.Mathlib.Omega.{arith}
-use Rattle·lexer.specs.Tokens.{left}
-use Rattle·lexer.specs.declared.token.Token.the-variants.{Close}
-use Rattle·parser·specs.Rows.{ops-of, frames-of, span-of, line-of}
-use Rattle·parser·proofs.Ways.{saw, onto, stops, par-close, par-no}
-use Rattle·parser·proofs.value.close.Needs as need
+use Rattle.std.proofs.Common.{refl, arith}
+use Rattle.lexer.specs.Tokens.{left}
+use Rattle.lexer.specs.declared.token.Token.TheVariants.{Close}
+use Rattle.parser.specs.Rows.{ops_of, frames_of, span_of, line_of}
+use Rattle.parser.proofs.Ways.{saw, onto, stops, par_close, par_no}
+use Rattle.parser.proofs.value.close.Goals as goal
 
-pub returns-in-Close : need.returns-in-Close
+pub returns-in-Close : goal.returns-in-Close
 returns-in-Close c =
-    let b = c .args .b in
-    let p = c .args .p in
-    let ws = c .args .words .now in
-    let line = line-of b ws in
-    let us = left line (p .at) in
-    let fs = frames-of line (p .depth) ws in
-    let co = ops-of line (b .base) (p .count) ws in
-    let s = saw (b .len) ws (p .at) (c .look-s .result) Close (c .look-s .ensures) (c .in-Close .is) refl in
-    let s-is = span-of line (c .look-s .result .span) in
-    let s-left = left line (c .look-s .result .span .to) in
-    onto b p _ ws _ _ _ _ (s .onward) (par-close us s-left s-is fs co (s .cuts) (c .args .n) (s .word)) (c .put .ensures)
+    let b = c.args.b in
+    let p = c.args.p in
+    let ws = c.args.words.now in
+    let line = line_of b ws in
+    let us = left line p.at in
+    let fs = frames_of line p.depth ws in
+    let co = ops_of line b.base p.count ws in
+    let s = saw b.len ws p.at c.look-s.result Close c.look-s.ensures c.in-Close.is refl in
+    let s-is = span_of line c.look-s.result.span in
+    let s-left = left line c.look-s.result.span.to in
+    onto b p _ ws _ _ _ _ s.onward (par_close us s-left s-is fs co s.cuts c.args.n s.word) c.put.ensures
 
-pub returns-in-rest : need.returns-in-rest
-returns-in-rest c =
-    let b = c .args .b in
-    let p = c .args .p in
-    let ws = c .args .words .now in
-    let line = line-of b ws in
-    let us = left line (p .at) in
-    let fs = frames-of line (p .depth) ws in
-    let co = ops-of line (b .base) (p .count) ws in
-    stops b p ws _ (p .at) (par-no us fs co (c .look-s .result .token) (c .look-s .ensures .token-is) (c .args .n) (c .in-rest .not-Close)) (omega arith) (c .pre .at-in)
+pub returns-in-default : goal.returns-in-default
+returns-in-default c =
+    let b = c.args.b in
+    let p = c.args.p in
+    let ws = c.args.words.now in
+    let line = line_of b ws in
+    let us = left line p.at in
+    let fs = frames_of line p.depth ws in
+    let co = ops_of line b.base p.count ws in
+    stops b p ws _ p.at (par_no us fs co c.look-s.result.token c.look-s.ensures.token_is c.args.n c.in-default.not-Close) (omega arith) c.requires.at_in

@@ -1,32 +1,32 @@
-use mathlib.Core.Path.{refl}
-use Rattle·lexer.specs.Tokens.{left}
-use Rattle·lexer.specs.declared.token.Token.the-variants.{Dot}
-use Rattle·parser·specs.declared.turn.Phase.the-variants.{Value as Phase-Value}
-use Rattle·parser·specs.Rows.{ops-of, frames-of, span-of, line-of}
-use Rattle·parser·proofs.Ways.{saw, onto, moves, dot-yes, dot-no}
-use Rattle·parser·proofs.value.dot.Needs as need
+use Rattle.std.proofs.Common.{refl}
+use Rattle.lexer.specs.Tokens.{left}
+use Rattle.lexer.specs.declared.token.Token.TheVariants.{Dot}
+use Rattle.parser.specs.declared.turn.Phase.TheVariants.{Value as PhaseValue}
+use Rattle.parser.specs.Rows.{ops_of, frames_of, span_of, line_of}
+use Rattle.parser.proofs.Ways.{saw, onto, moves, dot_yes, dot_no}
+use Rattle.parser.proofs.value.dot.Goals as goal
 
-pub returns-in-Dot : need.returns-in-Dot
+pub returns-in-Dot : goal.returns-in-Dot
 returns-in-Dot c =
-    let b = c .args .b in
-    let p = c .args .p in
-    let ws = c .args .words .now in
-    let line = line-of b ws in
-    let us = left line (p .at) in
-    let fs = frames-of line (p .depth) ws in
-    let co = ops-of line (b .base) (p .count) ws in
-    let s = saw (b .len) ws (p .at) (c .look-s .result) Dot (c .look-s .ensures) (c .in-Dot .is) refl in
-    let s-is = span-of line (c .look-s .result .span) in
-    let s-left = left line (c .look-s .result .span .to) in
-    onto b p _ ws _ _ _ _ (s .onward) (dot-yes us s-left s-is fs co (s .cuts) (s .word)) (c .field .ensures)
+    let b = c.args.b in
+    let p = c.args.p in
+    let ws = c.args.words.now in
+    let line = line_of b ws in
+    let us = left line p.at in
+    let fs = frames_of line p.depth ws in
+    let co = ops_of line b.base p.count ws in
+    let s = saw b.len ws p.at c.look-s.result Dot c.look-s.ensures c.in-Dot.is refl in
+    let s-is = span_of line c.look-s.result.span in
+    let s-left = left line c.look-s.result.span.to in
+    onto b p _ ws _ _ _ _ s.onward (dot_yes us s-left s-is fs co s.cuts s.word) c.field.ensures
 
-pub returns-in-rest : need.returns-in-rest
-returns-in-rest c =
-    let b = c .args .b in
-    let p = c .args .p in
-    let ws = c .args .words .now in
-    let line = line-of b ws in
-    let us = left line (p .at) in
-    let fs = frames-of line (p .depth) ws in
-    let co = ops-of line (b .base) (p .count) ws in
-    moves 24 b p ws _ (Phase-Value 6) (dot-no us fs co (c .look-s .result .token) (c .look-s .ensures .token-is) (c .in-rest .not-Dot)) (c .pre)
+pub returns-in-default : goal.returns-in-default
+returns-in-default c =
+    let b = c.args.b in
+    let p = c.args.p in
+    let ws = c.args.words.now in
+    let line = line_of b ws in
+    let us = left line p.at in
+    let fs = frames_of line p.depth ws in
+    let co = ops_of line b.base p.count ws in
+    moves 24 b p ws _ (PhaseValue 6) (dot_no us fs co c.look-s.result.token c.look-s.ensures.token_is c.in-default.not-Dot) c.requires

@@ -1,11 +1,11 @@
-use Rattle·protocol·proofs.Cuts.{blank-more, blank-here, blank-none}
-use Rattle·protocol·proofs.header.blank.Needs as need
+use Rattle.protocol.proofs.Cuts.{blank_more, blank_here, blank_none}
+use Rattle.protocol.proofs.header.blank.Goals as goal
 
-pub returns-then-c-eq32 : need.returns-then-c-eq32
-returns-then-c-eq32 c = blank-here (c .args .bytes .now) (c .loop-i .i) _ (c .loop-i-test .taken) (c .if-c-eq32 .taken) (c .loop-i .inv)
+pub returns-then-c-eq32 : goal.returns-then-c-eq32
+returns-then-c-eq32 c = blank_here c.args.bytes.now c.loop-i.i _ c.loop-i-test.true c.if-c-eq32.true c.loop-i.invariant
 
-pub loop-i-again : need.loop-i-again
-loop-i-again c = blank-more (c .args .bytes .now) (c .loop-i .i) _ (c .loop-i-test .taken) (c .if-c-eq32 .left) (c .loop-i .inv)
+pub loop-i-preserved : goal.loop-i-preserved
+loop-i-preserved c = blank_more c.args.bytes.now c.loop-i.i _ c.loop-i-test.true c.if-c-eq32.false c.loop-i.invariant
 
-pub returns : need.returns
-returns c = blank-none (c .args .bytes .now) (c .loop-i .i) _ (c .loop-i-test .left) (c .loop-i .kept .i-end) (c .loop-i .inv)
+pub returns : goal.returns
+returns c = blank_none c.args.bytes.now c.loop-i.i _ c.loop-i-test.false c.loop-i.auto.i-end c.loop-i.invariant

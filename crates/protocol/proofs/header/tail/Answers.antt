@@ -1,8 +1,8 @@
-use Rattle·protocol·proofs.Cuts.{tail-some, tail-none}
-use Rattle·protocol·proofs.header.tail.Needs as need
+use Rattle.protocol.proofs.Cuts.{tail_some, tail_none}
+use Rattle.protocol.proofs.header.tail.Goals as goal
 
-pub returns-then-end-bytes : need.returns-then-end-bytes
-returns-then-end-bytes c = tail-some (c .args .bytes .now) (c .blank-end .result) (c .blank-end .ensures)
+pub returns-then-end-bytes : goal.returns-then-end-bytes
+returns-then-end-bytes c = tail_some c.args.bytes.now c.blank-end.result c.blank-end.ensures
 
-pub returns-else-end-bytes : need.returns-else-end-bytes
-returns-else-end-bytes c = tail-none (c .args .bytes .now) (c .blank-end .result) (c .blank-end .ensures) (c .if-end-bytes .left)
+pub returns-else-end-bytes : goal.returns-else-end-bytes
+returns-else-end-bytes c = tail_none c.args.bytes.now c.blank-end.result c.blank-end.ensures c.if-end-bytes.false

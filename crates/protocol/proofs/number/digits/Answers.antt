@@ -1,12 +1,12 @@
-use mathlib.Core.Path.{_∙_, sym}
-use Rattle·protocol·proofs.Values.{step, stop, whole}
-use Rattle·protocol·proofs.number.digits.Needs as need
+use Rattle.std.proofs.Common.{sym, ◌∙◌}
+use Rattle.protocol.proofs.Values.{step, stop, whole}
+use Rattle.protocol.proofs.number.digits.Goals as goal
 
-pub returns-in-Break-value : need.returns-in-Break-value
-returns-in-Break-value c = c .from-residual .ensures ∙ stop (c .args .bytes .now) (c .loop-c .c-index) (c .loop-c .value) (c .loop-c-test .taken) (c .loop-c .inv) (c .in-Break-value .ensures tt)
+pub returns-in-err-value : goal.returns-in-err-value
+returns-in-err-value c = c.from-residual.ensures ∙ stop c.args.bytes.now c.loop-c.c-index c.loop-c.value c.loop-c-test.true c.loop-c.invariant c.in-err-value.ensures
 
-pub loop-c-again : need.loop-c-again
-loop-c-again c = step (c .args .bytes .now) (c .loop-c .c-index) (c .loop-c .value) (c .in-Continue-value .value) (c .loop-c-test .taken) (c .loop-c .inv) (c .in-Continue-value .ensures tt)
+pub loop-c-preserved : goal.loop-c-preserved
+loop-c-preserved c = step c.args.bytes.now c.loop-c.c-index c.loop-c.value c.in-ok-value.value c.loop-c-test.true c.loop-c.invariant c.in-ok-value.ensures
 
-pub returns : need.returns
-returns c = whole (c .args .bytes .now) (c .loop-c .c-index) (c .loop-c .value) (c .loop-c-test .left) (c .loop-c .inv)
+pub returns : goal.returns
+returns c = whole c.args.bytes.now c.loop-c.c-index c.loop-c.value c.loop-c-test.false c.loop-c.invariant

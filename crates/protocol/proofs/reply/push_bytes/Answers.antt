@@ -1,9 +1,9 @@
-use Rattle·std.specs.Of.Vec.{vec-items}
-use Rattle·protocol·proofs.Written.{byte-more, bytes-whole}
-use Rattle·protocol·proofs.reply.push_bytes.Needs as need
+use Rattle.std.proofs.Common.{vec_items}
+use Rattle.protocol.proofs.Written.{byte_more, bytes_whole}
+use Rattle.protocol.proofs.reply.push_bytes.Goals as goal
 
-pub loop-w-again : need.loop-w-again
-loop-w-again c = byte-more (vec-items (c .loop-w .out)) (vec-items (c .push .last .self)) (c .args .words .now) _ (c .loop-w .w-index) (c .byte .result) (c .loop-w-test .taken) (c .byte .ensures) (c .in-Continue-push .ensures tt .items) (c .loop-w .inv)
+pub loop-w-preserved : goal.loop-w-preserved
+loop-w-preserved c = byte_more (vec_items c.loop-w.out) (vec_items c.push.new.self) c.args.words.now _ c.loop-w.w-index c.byte.result c.loop-w-test.true c.byte.ensures c.in-ok-push.ensures.items c.loop-w.invariant
 
-pub returns : need.returns
-returns c = bytes-whole (vec-items (c .loop-w .out)) (c .args .words .now) _ (c .loop-w .w-index) (c .loop-w-test .left) (c .loop-w .inv)
+pub returns : goal.returns
+returns c = bytes_whole (vec_items c.loop-w.out) c.args.words.now _ c.loop-w.w-index c.loop-w-test.false c.loop-w.invariant

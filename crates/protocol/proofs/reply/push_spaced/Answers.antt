@@ -1,9 +1,9 @@
-use Rattle·std.specs.Of.Vec.{vec-items}
-use Rattle·protocol·proofs.Written.{number-more, numbers-whole}
-use Rattle·protocol·proofs.reply.push_spaced.Needs as need
+use Rattle.std.proofs.Common.{vec_items}
+use Rattle.protocol.proofs.Written.{number_more, numbers_whole}
+use Rattle.protocol.proofs.reply.push_spaced.Goals as goal
 
-pub loop-w-again : need.loop-w-again
-loop-w-again c = number-more (vec-items (c .loop-w .out)) (vec-items (c .push .last .self)) (vec-items (c .push-number .last .out)) (c .args .words .now) _ (c .loop-w .w-index) (c .loop-w-test .taken) (c .in-Continue-push .ensures tt .items) (c .in-Continue-push-number .ensures tt) (c .loop-w .inv)
+pub loop-w-preserved : goal.loop-w-preserved
+loop-w-preserved c = number_more (vec_items c.loop-w.out) (vec_items c.push.new.self) (vec_items c.push-number.new.out) c.args.words.now _ c.loop-w.w-index c.loop-w-test.true c.in-ok-push.ensures.items c.in-ok-push-number.ensures c.loop-w.invariant
 
-pub returns : need.returns
-returns c = numbers-whole (vec-items (c .loop-w .out)) (c .args .words .now) _ (c .loop-w .w-index) (c .loop-w-test .left) (c .loop-w .inv)
+pub returns : goal.returns
+returns c = numbers_whole (vec_items c.loop-w.out) c.args.words.now _ c.loop-w.w-index c.loop-w-test.false c.loop-w.invariant

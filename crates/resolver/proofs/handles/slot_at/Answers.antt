@@ -1,22 +1,20 @@
-use mathlib.Core.Path.{sym, _∙_}
-use Prim.Native.Nat.{_+_, _*_}
-use native.Mathlib.Omega.{arith}
-use Rattle·symbols.specs.Table.{word, tok-at}
-use Rattle·resolver·proofs.Fields.{named-is, slot-there, slot-past}
-use Rattle·resolver·proofs.handles.slot_at.Needs as need
+use Rattle.std.proofs.Common.{◌+◌, ◌*◌, sym, ◌∙◌, arith}
+use Rattle.symbols.specs.Table.{word, tok_at}
+use Rattle.resolver.proofs.Fields.{named_is, slot_there, slot_past}
+use Rattle.resolver.proofs.handles.slot_at.Goals as goal
 
-pub returns-then-index-field-count : need.returns-then-index-field-count
+pub returns-then-index-field-count : goal.returns-then-index-field-count
 returns-then-index-field-count c =
-    let ws = c .args .words .now in
-    let x = c .args .x in
-    let d = c .args .d in
+    let ws = c.args.words.now in
+    let x = c.args.x in
+    let d = c.args.d in
     record {
-      small = c .type-named .ensures .small;
-      is = named-is ws x (c .file-of .result) (word ws d) (c .field-type .result .now) (tok-at ws (word ws (d + 2)) (d + 9 + 4 * c .args .index + 2) .w) (c .type-named .result) (c .type-named .ensures .is) (c .file-of .ensures) (c .field-type .ensures) ∙ sym (slot-there ws x (word ws d) (word ws (d + 2)) (word ws (d + 8)) (d + 9) (c .args .index) (omega arith));
+      small = c.type-named.ensures.small;
+      is = named_is ws x c.file-of.result (word ws d) c.field-type.result.now (tok_at ws (word ws (d + 2)) (d + 9 + 4 * c.args.index + 2)).w c.type-named.result c.type-named.ensures.is c.file-of.ensures c.field-type.ensures ∙ sym (slot_there ws x (word ws d) (word ws (d + 2)) (word ws (d + 8)) (d + 9) c.args.index (omega arith));
     }
 
-pub returns-else-index-field-count : need.returns-else-index-field-count
+pub returns-else-index-field-count : goal.returns-else-index-field-count
 returns-else-index-field-count c =
-    let ws = c .args .words .now in
-    let d = c .args .d in
-    record { small = tt; is = sym (slot-past ws (c .args .x) (word ws d) (word ws (d + 2)) (word ws (d + 8)) (d + 9) (c .args .index) (omega arith)) }
+    let ws = c.args.words.now in
+    let d = c.args.d in
+    record { small = tt; is = sym (slot_past ws c.args.x (word ws d) (word ws (d + 2)) (word ws (d + 8)) (d + 9) c.args.index (omega arith)) }

@@ -1,5 +1,5 @@
-use Rattle·resolver·proofs.Means.{declared-agrees}
-use Rattle·resolver·proofs.theorems.declared_agrees.Needs as need
+use Rattle.resolver.proofs.Means.{declared_agrees}
+use Rattle.resolver.proofs.theorems.declared_agrees.Goals as goal
 
-pub returns : need.returns
-returns c = λ p ws x f n t. declared-agrees p ws x t f n
+pub returns : goal.returns
+returns c = λ p ws x f n t. declared_agrees p ws x t f n

@@ -1,5 +1,5 @@
-use Rattle·resolver·proofs.Means.{plain-agrees}
-use Rattle·resolver·proofs.theorems.plain_agrees.Needs as need
+use Rattle.resolver.proofs.Means.{plain_agrees}
+use Rattle.resolver.proofs.theorems.plain_agrees.Goals as goal
 
-pub returns : need.returns
-returns c = plain-agrees
+pub returns : goal.returns
+returns c = plain_agrees

@@ -1,6 +1,6 @@
--- Bound-in-line.
-use Rattle·semantics·proofs.Stands.{bound-in-line}
-use Rattle·semantics·proofs.theorems.bound_in_line.Needs as need
+-- BoundInLine.
+use Rattle.semantics.proofs.Stands.{bound_in_line}
+use Rattle.semantics.proofs.theorems.bound_in_line.Goals as goal
 
-pub returns : need.returns
-returns c = bound-in-line
+pub returns : goal.returns
+returns c = bound_in_line

@@ -1,6 +1,6 @@
--- Fault-numbers.
-use Rattle·semantics·proofs.Numbers.{fault-numbers}
-use Rattle·semantics·proofs.theorems.fault_numbers.Needs as need
+-- FaultNumbers.
+use Rattle.semantics.proofs.Numbers.{fault_numbers}
+use Rattle.semantics.proofs.theorems.fault_numbers.Goals as goal
 
-pub returns : need.returns
-returns c = fault-numbers
+pub returns : goal.returns
+returns c = fault_numbers

@@ -1,6 +1,6 @@
--- Faults-in-text.
-use Rattle·semantics·proofs.Numbers.{faults-in-text}
-use Rattle·semantics·proofs.theorems.faults_in_text.Needs as need
+-- FaultsInText.
+use Rattle.semantics.proofs.Numbers.{faults_in_text}
+use Rattle.semantics.proofs.theorems.faults_in_text.Goals as goal
 
-pub returns : need.returns
-returns c = faults-in-text
+pub returns : goal.returns
+returns c = faults_in_text

@@ -1,6 +1,6 @@
--- Items-only.
-use Rattle·semantics·proofs.Once.{items-only}
-use Rattle·semantics·proofs.theorems.items_only.Needs as need
+-- ItemsOnly.
+use Rattle.semantics.proofs.Once.{items_only}
+use Rattle.semantics.proofs.theorems.items_only.Goals as goal
 
-pub returns : need.returns
-returns c = items-only
+pub returns : goal.returns
+returns c = items_only

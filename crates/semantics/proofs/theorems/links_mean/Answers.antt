@@ -1,6 +1,6 @@
--- Links-mean.
-use Rattle·semantics·proofs.Stands.{links-mean}
-use Rattle·semantics·proofs.theorems.links_mean.Needs as need
+-- LinksMean.
+use Rattle.semantics.proofs.Stands.{links_mean}
+use Rattle.semantics.proofs.theorems.links_mean.Goals as goal
 
-pub returns : need.returns
-returns c = links-mean
+pub returns : goal.returns
+returns c = links_mean

@@ -1,6 +1,6 @@
--- Little-said.
-use Rattle·semantics·proofs.Numbers.{little-said}
-use Rattle·semantics·proofs.theorems.little_said.Needs as need
+-- LittleSaid.
+use Rattle.semantics.proofs.Numbers.{little_said}
+use Rattle.semantics.proofs.theorems.little_said.Goals as goal
 
-pub returns : need.returns
-returns c = little-said
+pub returns : goal.returns
+returns c = little_said

@@ -1,6 +1,6 @@
--- Types-mean.
-use Rattle·semantics·proofs.Blame.{types-mean}
-use Rattle·semantics·proofs.theorems.types_mean.Needs as need
+-- TypesMean.
+use Rattle.semantics.proofs.Blame.{types_mean}
+use Rattle.semantics.proofs.theorems.types_mean.Goals as goal
 
-pub returns : need.returns
-returns c = types-mean
+pub returns : goal.returns
+returns c = types_mean

@@ -1,6 +1,6 @@
--- Untyped-unblamed.
-use Rattle·semantics·proofs.Blame.{untyped-unblamed}
-use Rattle·semantics·proofs.theorems.untyped_unblamed.Needs as need
+-- UntypedUnblamed.
+use Rattle.semantics.proofs.Blame.{untyped_unblamed}
+use Rattle.semantics.proofs.theorems.untyped_unblamed.Goals as goal
 
-pub returns : need.returns
-returns c = untyped-unblamed
+pub returns : goal.returns
+returns c = untyped_unblamed

@@ -1,6 +1,6 @@
--- Within-line.
-use Rattle·semantics·proofs.Stands.{within-line}
-use Rattle·semantics·proofs.theorems.within_line.Needs as need
+-- WithinLine.
+use Rattle.semantics.proofs.Stands.{within_line}
+use Rattle.semantics.proofs.theorems.within_line.Goals as goal
 
-pub returns : need.returns
-returns c = within-line
+pub returns : goal.returns
+returns c = within_line

@@ -1,29 +1,28 @@
 -- What is proved by hand of add.
-use native.Mathlib.Omega.{arith}
-use mathlib.Core.Path.{refl}
-use Rattle·store·proofs.Changing.{p-light, long-in, no-change, add-refused, add-make, add-work, add-intern, add-can, add-changed, add-says}
-use Rattle·store·proofs.change.add.Needs as need
+use Rattle.std.proofs.Common.{refl, arith}
+use Rattle.store.proofs.Changing.{p_light, long_in, no_change, add_refused, add_make, add_work, add_intern, add_can, add_changed, add_says}
+use Rattle.store.proofs.change.add.Goals as goal
 
-pub room-with-requires : need.room-with-requires
-room-with-requires c κs = record { fits = c .pre .row .order .fits; there = omega arith; light = omega (arith, p-light _ _ _ (c .pre .row), c .pre .row .small); short = (omega (arith, c .pre .short .0, c .pre .row .small), omega (arith, c .pre .short .1, c .pre .row .small)) }
+pub room-with-requires : goal.room-with-requires
+room-with-requires c = record { fits = c.requires.row.order.fits; there = omega arith; light = omega (arith, p_light _ _ _ c.requires.row, c.requires.row.small); short = (omega (arith, c.requires.short.0, c.requires.row.small), omega (arith, c.requires.short.1, c.requires.row.small)) }
 
-pub returns-then-room-with-mem : need.returns-then-room-with-mem
-returns-then-room-with-mem c = record { kept = no-change _ _ _ (c .pre .row); says = (refl, add-refused _ _ (c .args .name .now) (c .args .text .now) _ (c .pre .row) (c .pre .missing) (c .room-with .result) (c .room-with .ensures) (c .if-room-with-mem .taken)) }
+pub returns-then-room-with-mem : goal.returns-then-room-with-mem
+returns-then-room-with-mem c = record { kept = no_change _ _ _ c.requires.row; says = (refl, add_refused _ _ c.args.name.now c.args.text.now _ c.requires.row c.requires.missing c.room-with.result c.room-with.ensures c.if-room-with-mem.true) }
 
-pub make-room-requires : need.make-room-requires
-make-room-requires c κs = add-make _ _ (c .args .name .now) (c .args .text .now) _ (c .pre .row) (c .pre .missing) (c .room-with .result) (c .room-with .ensures) (c .if-room-with-mem .left)
+pub make-room-requires : goal.make-room-requires
+make-room-requires c = add_make _ _ c.args.name.now c.args.text.now _ c.requires.row c.requires.missing c.room-with.result c.room-with.ensures c.if-room-with-mem.false
 
-pub widen-requires : need.widen-requires
-widen-requires c κs = omega (arith, add-work _ _ (c .args .name .now) (c .args .text .now) _ (c .pre .row) (c .pre .missing) (c .room-with .result) (c .room-with .ensures) (c .if-room-with-mem .left) .0, c .make-room .kept .mem)
+pub widen-requires : goal.widen-requires
+widen-requires c = omega (arith, (add_work _ _ c.args.name.now c.args.text.now _ c.requires.row c.requires.missing c.room-with.result c.room-with.ensures c.if-room-with-mem.false).0, c.make-room.auto.mem)
 
-pub intern-f-requires : need.intern-f-requires
-intern-f-requires c κs = add-intern _ _ (c .args .name .now) (c .args .text .now) _ (c .pre .row) (c .pre .missing) (c .room-with .result) (c .room-with .ensures) (c .if-room-with-mem .left) _ (c .make-room .kept .mem) (c .make-room .ensures) _ (c .widen .kept .mem) (c .widen .ensures)
+pub intern-f-requires : goal.intern-f-requires
+intern-f-requires c = add_intern _ _ c.args.name.now c.args.text.now _ c.requires.row c.requires.missing c.room-with.result c.room-with.ensures c.if-room-with-mem.false _ c.make-room.auto.mem c.make-room.ensures _ c.widen.auto.mem c.widen.ensures
 
-pub widen-requires-2 : need.widen-requires-2
-widen-requires-2 c κs = omega (arith, add-work _ _ (c .args .name .now) (c .args .text .now) _ (c .pre .row) (c .pre .missing) (c .room-with .result) (c .room-with .ensures) (c .if-room-with-mem .left) .1, c .make-room .kept .mem, c .widen .kept .mem, c .intern-f .kept .mem)
+pub widen-requires-2 : goal.widen-requires-2
+widen-requires-2 c = omega (arith, (add_work _ _ c.args.name.now c.args.text.now _ c.requires.row c.requires.missing c.room-with.result c.room-with.ensures c.if-room-with-mem.false).1, c.make-room.auto.mem, c.widen.auto.mem, c.intern-f.auto.mem)
 
-pub put-text-requires : need.put-text-requires
-put-text-requires c κs = add-can _ _ (c .args .name .now) (c .args .text .now) _ (c .pre .row) (c .pre .missing) (c .room-with .result) (c .room-with .ensures) (c .if-room-with-mem .left) _ (c .make-room .kept .mem) (c .make-room .ensures) _ (c .widen .kept .mem) (c .widen .ensures) _ _ (c .intern-f .kept .mem) (c .intern-f .ensures) _ (c .widen-2 .kept .mem) (c .widen-2 .ensures)
+pub put-text-requires : goal.put-text-requires
+put-text-requires c = add_can _ _ c.args.name.now c.args.text.now _ c.requires.row c.requires.missing c.room-with.result c.room-with.ensures c.if-room-with-mem.false _ c.make-room.auto.mem c.make-room.ensures _ c.widen.auto.mem c.widen.ensures _ _ c.intern-f.auto.mem c.intern-f.ensures _ c.widen-2.auto.mem c.widen-2.ensures
 
-pub returns : need.returns
-returns c = record { kept = add-changed _ _ (c .args .name .now) (c .args .text .now) _ (c .pre .row) (c .pre .missing) (c .room-with .result) (c .room-with .ensures) (c .if-room-with-mem .left) _ (c .make-room .kept .mem) (c .make-room .ensures) _ (c .widen .kept .mem) (c .widen .ensures) _ _ (c .intern-f .kept .mem) (c .intern-f .ensures) _ (c .widen-2 .kept .mem) (c .widen-2 .ensures) _ (c .put-text .kept .mem) (c .put-text .ensures); says = add-says _ _ (c .args .name .now) (c .args .text .now) _ (c .pre .row) (c .pre .missing) (c .room-with .result) (c .room-with .ensures) (c .if-room-with-mem .left) _ (c .make-room .kept .mem) (c .make-room .ensures) _ (c .widen .kept .mem) (c .widen .ensures) _ _ (c .intern-f .kept .mem) (c .intern-f .ensures) _ (c .widen-2 .kept .mem) (c .widen-2 .ensures) _ (c .put-text .kept .mem) (c .put-text .ensures) }
+pub returns : goal.returns
+returns c = record { kept = add_changed _ _ c.args.name.now c.args.text.now _ c.requires.row c.requires.missing c.room-with.result c.room-with.ensures c.if-room-with-mem.false _ c.make-room.auto.mem c.make-room.ensures _ c.widen.auto.mem c.widen.ensures _ _ c.intern-f.auto.mem c.intern-f.ensures _ c.widen-2.auto.mem c.widen-2.ensures _ c.put-text.auto.mem c.put-text.ensures; says = add_says _ _ c.args.name.now c.args.text.now _ c.requires.row c.requires.missing c.room-with.result c.room-with.ensures c.if-room-with-mem.false _ c.make-room.auto.mem c.make-room.ensures _ c.widen.auto.mem c.widen.ensures _ _ c.intern-f.auto.mem c.intern-f.ensures _ c.widen-2.auto.mem c.widen-2.ensures _ c.put-text.auto.mem c.put-text.ensures }

@@ -1,43 +1,41 @@
 -- What is proved by hand of edit_at.
-use native.Mathlib.Omega.{arith}
-use mathlib.Core.Path.{refl}
-use mathlib.Core.Logic.{inl, inr}
-use Rattle·semantics.specs.Answers.{edits}
-use Rattle·store·proofs.Changing.{p-light, long-in, no-change, files-there, old-long, name-short, old-short, edit-long, edit-large, can-lay, laid-there, replace-refused, replace-make, replace-work, replace-record, replace-can, replace-changed, replace-says}
-use Rattle·store·proofs.change.edit_at.Needs as need
+use Rattle.std.proofs.Common.{refl, inl, inr, arith}
+use Rattle.semantics.specs.Answers.{edits}
+use Rattle.store.proofs.Changing.{p_light, long_in, no_change, files_there, old_long, name_short, old_short, edit_long, edit_large, can_lay, laid_there, replace_refused, replace_make, replace_work, replace_record, replace_can, replace_changed, replace_says}
+use Rattle.store.proofs.change.edit_at.Goals as goal
 
-pub record-of-q-requires : need.record-of-q-requires
-record-of-q-requires c κs = (c .pre .row .order .fits, (c .pre .found .there, long-in _ _ _ (c .pre .row)))
+pub record-of-q-requires : goal.record-of-q-requires
+record-of-q-requires c = (c.requires.row.order.fits, (c.requires.found.there, long_in _ _ _ c.requires.row))
 
-pub returns-then-to-from : need.returns-then-to-from
-returns-then-to-from c = let e = old-long _ _ _ (c .args .from) (c .args .to) (c .args .name .now) (c .args .new .now) _ (c .pre .row) (c .pre .found) _ (c .record-of-q .ensures) in record { kept = no-change _ _ _ (c .pre .row); says = (c .pre .found .file, refl, c .pre .found .first, elim (c .then-to-from .either) [ inl h ↦ inl h | inr h ↦ inr (omega (arith, h .1)) ]) }
+pub returns-then-to-from : goal.returns-then-to-from
+returns-then-to-from c = let e = old_long _ _ _ c.args.from c.args.to c.args.name.now c.args.new.now _ c.requires.row c.requires.found _ c.record-of-q.ensures in record { kept = no_change _ _ _ c.requires.row; says = (c.requires.found.file, refl, c.requires.found.first, elim c.then-to-from.either [ inl h ↦ inl h | inr h ↦ inr (omega (arith, h.1)) ]) }
 
-pub returns-then-new-mem : need.returns-then-new-mem
-returns-then-new-mem c = let e = old-long _ _ _ (c .args .from) (c .args .to) (c .args .name .now) (c .args .new .now) _ (c .pre .row) (c .pre .found) _ (c .record-of-q .ensures) in record { kept = no-change _ _ _ (c .pre .row); says = (c .pre .found .file, refl, c .pre .found .first, c .if-to-from .left, omega (arith, c .if-old-to .left), edit-large _ _ _ _ _ (c .args .name .now) (c .args .new .now) _ (c .pre .row) (c .pre .found) _ (c .record-of-q .ensures) (c .if-to-from .left) (c .if-old-to .left) (c .if-new-mem .taken)) }
+pub returns-then-new-mem : goal.returns-then-new-mem
+returns-then-new-mem c = let e = old_long _ _ _ c.args.from c.args.to c.args.name.now c.args.new.now _ c.requires.row c.requires.found _ c.record-of-q.ensures in record { kept = no_change _ _ _ c.requires.row; says = (c.requires.found.file, refl, c.requires.found.first, c.if-to-from.false, omega (arith, c.if-old-to.false), edit_large _ _ _ _ _ c.args.name.now c.args.new.now _ c.requires.row c.requires.found _ c.record-of-q.ensures c.if-to-from.false c.if-old-to.false c.if-new-mem.true) }
 
-pub add-len : need.add-len
-add-len c = let s = old-short _ _ _ (c .args .from) (c .args .to) (c .args .name .now) (c .args .new .now) _ (c .pre .row) (c .pre .found) _ (c .record-of-q .ensures) in omega (arith, c .if-to-from .left, c .if-old-to .left, c .if-new-mem .left, c .pre .row .small)
+pub overflow-add-len : goal.overflow-add-len
+overflow-add-len c = let s = old_short _ _ _ c.args.from c.args.to c.args.name.now c.args.new.now _ c.requires.row c.requires.found _ c.record-of-q.ensures in omega (arith, c.if-to-from.false, c.if-old-to.false, c.if-new-mem.false, c.requires.row.small)
 
-pub add-len-2 : need.add-len-2
-add-len-2 c = let s = old-short _ _ _ (c .args .from) (c .args .to) (c .args .name .now) (c .args .new .now) _ (c .pre .row) (c .pre .found) _ (c .record-of-q .ensures) in omega (arith, c .if-to-from .left, c .if-old-to .left, c .if-new-mem .left, c .pre .row .small)
+pub overflow-add-len-2 : goal.overflow-add-len-2
+overflow-add-len-2 c = let s = old_short _ _ _ c.args.from c.args.to c.args.name.now c.args.new.now _ c.requires.row c.requires.found _ c.record-of-q.ensures in omega (arith, c.if-to-from.false, c.if-old-to.false, c.if-new-mem.false, c.requires.row.small)
 
-pub room-with-requires : need.room-with-requires
-room-with-requires c κs = let s = old-short _ _ _ (c .args .from) (c .args .to) (c .args .name .now) (c .args .new .now) _ (c .pre .row) (c .pre .found) _ (c .record-of-q .ensures) in record { fits = c .pre .row .order .fits; there = files-there _ _ _ (c .pre .row) _ _ (c .pre .found); light = omega (arith, p-light _ _ _ (c .pre .row), c .pre .row .small); short = (name-short _ _ _ (c .args .from) (c .args .to) (c .args .name .now) (c .args .new .now) _ (c .pre .row) (c .pre .found) _ (c .record-of-q .ensures), omega (arith, c .if-to-from .left, c .if-old-to .left, c .if-new-mem .left, c .pre .row .small)) }
+pub room-with-requires : goal.room-with-requires
+room-with-requires c = let s = old_short _ _ _ c.args.from c.args.to c.args.name.now c.args.new.now _ c.requires.row c.requires.found _ c.record-of-q.ensures in record { fits = c.requires.row.order.fits; there = files_there _ _ _ c.requires.row _ _ c.requires.found; light = omega (arith, p_light _ _ _ c.requires.row, c.requires.row.small); short = (name_short _ _ _ c.args.from c.args.to c.args.name.now c.args.new.now _ c.requires.row c.requires.found _ c.record-of-q.ensures, omega (arith, c.if-to-from.false, c.if-old-to.false, c.if-new-mem.false, c.requires.row.small)) }
 
-pub returns-then-room-with-mem : need.returns-then-room-with-mem
-returns-then-room-with-mem c = let e = old-long _ _ _ (c .args .from) (c .args .to) (c .args .name .now) (c .args .new .now) _ (c .pre .row) (c .pre .found) _ (c .record-of-q .ensures) in record { kept = no-change _ _ _ (c .pre .row); says = (c .pre .found .file, refl, c .pre .found .first, c .if-to-from .left, omega (arith, c .if-old-to .left), replace-refused _ _ _ _ _ (edits (c .args .from) (c .args .to) (c .args .new .now) (c .pre .found .file .text)) _ (edit-long _ _ _ _ _ (c .args .name .now) (c .args .new .now) _ (c .pre .row) (c .pre .found) _ (c .record-of-q .ensures) (c .if-to-from .left) (c .if-old-to .left)) (c .pre .row) (c .pre .found) (c .room-with .result) (c .room-with .ensures) (c .if-room-with-mem .taken)) }
+pub returns-then-room-with-mem : goal.returns-then-room-with-mem
+returns-then-room-with-mem c = let e = old_long _ _ _ c.args.from c.args.to c.args.name.now c.args.new.now _ c.requires.row c.requires.found _ c.record-of-q.ensures in record { kept = no_change _ _ _ c.requires.row; says = (c.requires.found.file, refl, c.requires.found.first, c.if-to-from.false, omega (arith, c.if-old-to.false), replace_refused _ _ _ _ _ (edits c.args.from c.args.to c.args.new.now c.requires.found.file.text) _ (edit_long _ _ _ _ _ c.args.name.now c.args.new.now _ c.requires.row c.requires.found _ c.record-of-q.ensures c.if-to-from.false c.if-old-to.false) c.requires.row c.requires.found c.room-with.result c.room-with.ensures c.if-room-with-mem.true) }
 
-pub make-room-requires : need.make-room-requires
-make-room-requires c κs = replace-make _ _ _ _ _ (edits (c .args .from) (c .args .to) (c .args .new .now) (c .pre .found .file .text)) _ (edit-long _ _ _ _ _ (c .args .name .now) (c .args .new .now) _ (c .pre .row) (c .pre .found) _ (c .record-of-q .ensures) (c .if-to-from .left) (c .if-old-to .left)) (c .pre .row) (c .pre .found) (c .room-with .result) (c .room-with .ensures) (c .if-room-with-mem .left)
+pub make-room-requires : goal.make-room-requires
+make-room-requires c = replace_make _ _ _ _ _ (edits c.args.from c.args.to c.args.new.now c.requires.found.file.text) _ (edit_long _ _ _ _ _ c.args.name.now c.args.new.now _ c.requires.row c.requires.found _ c.record-of-q.ensures c.if-to-from.false c.if-old-to.false) c.requires.row c.requires.found c.room-with.result c.room-with.ensures c.if-room-with-mem.false
 
-pub lay-edited-requires : need.lay-edited-requires
-lay-edited-requires c κs = can-lay _ _ _ _ _ (c .args .name .now) (c .args .new .now) _ (c .pre .row) (c .pre .found) _ (c .record-of-q .ensures) (c .if-to-from .left) (c .if-old-to .left) _ (c .make-room .kept .mem) (c .make-room .ensures) (replace-work _ _ _ _ _ (edits (c .args .from) (c .args .to) (c .args .new .now) (c .pre .found .file .text)) _ (edit-long _ _ _ _ _ (c .args .name .now) (c .args .new .now) _ (c .pre .row) (c .pre .found) _ (c .record-of-q .ensures) (c .if-to-from .left) (c .if-old-to .left)) (c .pre .row) (c .pre .found) (c .room-with .result) (c .room-with .ensures) (c .if-room-with-mem .left))
+pub lay-edited-requires : goal.lay-edited-requires
+lay-edited-requires c = can_lay _ _ _ _ _ c.args.name.now c.args.new.now _ c.requires.row c.requires.found _ c.record-of-q.ensures c.if-to-from.false c.if-old-to.false _ c.make-room.auto.mem c.make-room.ensures (replace_work _ _ _ _ _ (edits c.args.from c.args.to c.args.new.now c.requires.found.file.text) _ (edit_long _ _ _ _ _ c.args.name.now c.args.new.now _ c.requires.row c.requires.found _ c.record-of-q.ensures c.if-to-from.false c.if-old-to.false) c.requires.row c.requires.found c.room-with.result c.room-with.ensures c.if-room-with-mem.false)
 
-pub record-of-p-requires : need.record-of-p-requires
-record-of-p-requires c κs = replace-record _ _ _ _ _ (edits (c .args .from) (c .args .to) (c .args .new .now) (c .pre .found .file .text)) _ (edit-long _ _ _ _ _ (c .args .name .now) (c .args .new .now) _ (c .pre .row) (c .pre .found) _ (c .record-of-q .ensures) (c .if-to-from .left) (c .if-old-to .left)) (c .pre .row) (c .pre .found) (c .room-with .result) (c .room-with .ensures) (c .if-room-with-mem .left) _ (c .make-room .kept .mem) (c .make-room .ensures) _ (c .lay-edited .kept .mem) (c .lay-edited .ensures .below)
+pub record-of-p-requires : goal.record-of-p-requires
+record-of-p-requires c = replace_record _ _ _ _ _ (edits c.args.from c.args.to c.args.new.now c.requires.found.file.text) _ (edit_long _ _ _ _ _ c.args.name.now c.args.new.now _ c.requires.row c.requires.found _ c.record-of-q.ensures c.if-to-from.false c.if-old-to.false) c.requires.row c.requires.found c.room-with.result c.room-with.ensures c.if-room-with-mem.false _ c.make-room.auto.mem c.make-room.ensures _ c.lay-edited.auto.mem c.lay-edited.ensures.below
 
-pub put-text-requires : need.put-text-requires
-put-text-requires c κs = replace-can _ _ _ _ _ (edits (c .args .from) (c .args .to) (c .args .new .now) (c .pre .found .file .text)) _ (edit-long _ _ _ _ _ (c .args .name .now) (c .args .new .now) _ (c .pre .row) (c .pre .found) _ (c .record-of-q .ensures) (c .if-to-from .left) (c .if-old-to .left)) (c .pre .row) (c .pre .found) (c .room-with .result) (c .room-with .ensures) (c .if-room-with-mem .left) _ (c .make-room .kept .mem) (c .make-room .ensures) _ (c .lay-edited .kept .mem) (c .lay-edited .ensures .below) _ (c .record-of-p .ensures)
+pub put-text-requires : goal.put-text-requires
+put-text-requires c = replace_can _ _ _ _ _ (edits c.args.from c.args.to c.args.new.now c.requires.found.file.text) _ (edit_long _ _ _ _ _ c.args.name.now c.args.new.now _ c.requires.row c.requires.found _ c.record-of-q.ensures c.if-to-from.false c.if-old-to.false) c.requires.row c.requires.found c.room-with.result c.room-with.ensures c.if-room-with-mem.false _ c.make-room.auto.mem c.make-room.ensures _ c.lay-edited.auto.mem c.lay-edited.ensures.below _ c.record-of-p.ensures
 
-pub returns : need.returns
-returns c = let e = old-long _ _ _ (c .args .from) (c .args .to) (c .args .name .now) (c .args .new .now) _ (c .pre .row) (c .pre .found) _ (c .record-of-q .ensures) in record { kept = replace-changed _ _ _ _ _ (edits (c .args .from) (c .args .to) (c .args .new .now) (c .pre .found .file .text)) _ (edit-long _ _ _ _ _ (c .args .name .now) (c .args .new .now) _ (c .pre .row) (c .pre .found) _ (c .record-of-q .ensures) (c .if-to-from .left) (c .if-old-to .left)) (c .pre .row) (c .pre .found) (c .room-with .result) (c .room-with .ensures) (c .if-room-with-mem .left) _ (c .make-room .kept .mem) (c .make-room .ensures) _ (c .lay-edited .kept .mem) (c .lay-edited .ensures .below) _ (c .record-of-p .ensures) (laid-there _ _ _ _ _ (c .args .name .now) (c .args .new .now) _ (c .pre .row) (c .pre .found) _ (c .record-of-q .ensures) (c .if-to-from .left) (c .if-old-to .left) _ (c .make-room .kept .mem) (c .make-room .ensures) (replace-work _ _ _ _ _ (edits (c .args .from) (c .args .to) (c .args .new .now) (c .pre .found .file .text)) _ (edit-long _ _ _ _ _ (c .args .name .now) (c .args .new .now) _ (c .pre .row) (c .pre .found) _ (c .record-of-q .ensures) (c .if-to-from .left) (c .if-old-to .left)) (c .pre .row) (c .pre .found) (c .room-with .result) (c .room-with .ensures) (c .if-room-with-mem .left)) _ (c .lay-edited .ensures)) _ (c .put-text .kept .mem) (c .put-text .ensures); says = (c .pre .found .file, c .pre .found .first, c .if-to-from .left, omega (arith, c .if-old-to .left), replace-says _ _ _ _ _ (edits (c .args .from) (c .args .to) (c .args .new .now) (c .pre .found .file .text)) _ (edit-long _ _ _ _ _ (c .args .name .now) (c .args .new .now) _ (c .pre .row) (c .pre .found) _ (c .record-of-q .ensures) (c .if-to-from .left) (c .if-old-to .left)) (c .pre .row) (c .pre .found) (c .room-with .result) (c .room-with .ensures) (c .if-room-with-mem .left) _ (c .make-room .kept .mem) (c .make-room .ensures) _ (c .lay-edited .kept .mem) (c .lay-edited .ensures .below) _ (c .record-of-p .ensures) (laid-there _ _ _ _ _ (c .args .name .now) (c .args .new .now) _ (c .pre .row) (c .pre .found) _ (c .record-of-q .ensures) (c .if-to-from .left) (c .if-old-to .left) _ (c .make-room .kept .mem) (c .make-room .ensures) (replace-work _ _ _ _ _ (edits (c .args .from) (c .args .to) (c .args .new .now) (c .pre .found .file .text)) _ (edit-long _ _ _ _ _ (c .args .name .now) (c .args .new .now) _ (c .pre .row) (c .pre .found) _ (c .record-of-q .ensures) (c .if-to-from .left) (c .if-old-to .left)) (c .pre .row) (c .pre .found) (c .room-with .result) (c .room-with .ensures) (c .if-room-with-mem .left)) _ (c .lay-edited .ensures)) _ (c .put-text .kept .mem) (c .put-text .ensures)) }
+pub returns : goal.returns
+returns c = let e = old_long _ _ _ c.args.from c.args.to c.args.name.now c.args.new.now _ c.requires.row c.requires.found _ c.record-of-q.ensures in record { kept = replace_changed _ _ _ _ _ (edits c.args.from c.args.to c.args.new.now c.requires.found.file.text) _ (edit_long _ _ _ _ _ c.args.name.now c.args.new.now _ c.requires.row c.requires.found _ c.record-of-q.ensures c.if-to-from.false c.if-old-to.false) c.requires.row c.requires.found c.room-with.result c.room-with.ensures c.if-room-with-mem.false _ c.make-room.auto.mem c.make-room.ensures _ c.lay-edited.auto.mem c.lay-edited.ensures.below _ c.record-of-p.ensures (laid_there _ _ _ _ _ c.args.name.now c.args.new.now _ c.requires.row c.requires.found _ c.record-of-q.ensures c.if-to-from.false c.if-old-to.false _ c.make-room.auto.mem c.make-room.ensures (replace_work _ _ _ _ _ (edits c.args.from c.args.to c.args.new.now c.requires.found.file.text) _ (edit_long _ _ _ _ _ c.args.name.now c.args.new.now _ c.requires.row c.requires.found _ c.record-of-q.ensures c.if-to-from.false c.if-old-to.false) c.requires.row c.requires.found c.room-with.result c.room-with.ensures c.if-room-with-mem.false) _ c.lay-edited.ensures) _ c.put-text.auto.mem c.put-text.ensures; says = (c.requires.found.file, c.requires.found.first, c.if-to-from.false, omega (arith, c.if-old-to.false), replace_says _ _ _ _ _ (edits c.args.from c.args.to c.args.new.now c.requires.found.file.text) _ (edit_long _ _ _ _ _ c.args.name.now c.args.new.now _ c.requires.row c.requires.found _ c.record-of-q.ensures c.if-to-from.false c.if-old-to.false) c.requires.row c.requires.found c.room-with.result c.room-with.ensures c.if-room-with-mem.false _ c.make-room.auto.mem c.make-room.ensures _ c.lay-edited.auto.mem c.lay-edited.ensures.below _ c.record-of-p.ensures (laid_there _ _ _ _ _ c.args.name.now c.args.new.now _ c.requires.row c.requires.found _ c.record-of-q.ensures c.if-to-from.false c.if-old-to.false _ c.make-room.auto.mem c.make-room.ensures (replace_work _ _ _ _ _ (edits c.args.from c.args.to c.args.new.now c.requires.found.file.text) _ (edit_long _ _ _ _ _ c.args.name.now c.args.new.now _ c.requires.row c.requires.found _ c.record-of-q.ensures c.if-to-from.false c.if-old-to.false) c.requires.row c.requires.found c.room-with.result c.room-with.ensures c.if-room-with-mem.false) _ c.lay-edited.ensures) _ c.put-text.auto.mem c.put-text.ensures) }

@@ -1,26 +1,25 @@
 -- What is proved by hand of replace.
-use native.Mathlib.Omega.{arith}
-use mathlib.Core.Path.{refl}
-use Rattle·store·proofs.Changing.{p-light, no-change, files-there, replace-refused, replace-make, replace-work, replace-record, replace-can, replace-changed, replace-says}
-use Rattle·store·proofs.change.replace.Needs as need
+use Rattle.std.proofs.Common.{refl, arith}
+use Rattle.store.proofs.Changing.{p_light, no_change, files_there, replace_refused, replace_make, replace_work, replace_record, replace_can, replace_changed, replace_says}
+use Rattle.store.proofs.change.replace.Goals as goal
 
-pub room-with-requires : need.room-with-requires
-room-with-requires c κs = record { fits = c .pre .row .order .fits; there = files-there _ _ _ (c .pre .row) _ _ (c .pre .found); light = omega (arith, p-light _ _ _ (c .pre .row), c .pre .row .small); short = (omega (arith, c .pre .short .0, c .pre .row .small), omega (arith, c .pre .short .1, c .pre .row .small)) }
+pub room-with-requires : goal.room-with-requires
+room-with-requires c = record { fits = c.requires.row.order.fits; there = files_there _ _ _ c.requires.row _ _ c.requires.found; light = omega (arith, p_light _ _ _ c.requires.row, c.requires.row.small); short = (omega (arith, c.requires.short.0, c.requires.row.small), omega (arith, c.requires.short.1, c.requires.row.small)) }
 
-pub returns-then-room-with-mem : need.returns-then-room-with-mem
-returns-then-room-with-mem c = record { kept = no-change _ _ _ (c .pre .row); says = (refl, replace-refused _ _ _ _ _ (c .args .text .now) _ refl (c .pre .row) (c .pre .found) (c .room-with .result) (c .room-with .ensures) (c .if-room-with-mem .taken)) }
+pub returns-then-room-with-mem : goal.returns-then-room-with-mem
+returns-then-room-with-mem c = record { kept = no_change _ _ _ c.requires.row; says = (refl, replace_refused _ _ _ _ _ c.args.text.now _ refl c.requires.row c.requires.found c.room-with.result c.room-with.ensures c.if-room-with-mem.true) }
 
-pub make-room-requires : need.make-room-requires
-make-room-requires c κs = replace-make _ _ _ _ _ (c .args .text .now) _ refl (c .pre .row) (c .pre .found) (c .room-with .result) (c .room-with .ensures) (c .if-room-with-mem .left)
+pub make-room-requires : goal.make-room-requires
+make-room-requires c = replace_make _ _ _ _ _ c.args.text.now _ refl c.requires.row c.requires.found c.room-with.result c.room-with.ensures c.if-room-with-mem.false
 
-pub widen-requires : need.widen-requires
-widen-requires c κs = omega (arith, replace-work _ _ _ _ _ (c .args .text .now) _ refl (c .pre .row) (c .pre .found) (c .room-with .result) (c .room-with .ensures) (c .if-room-with-mem .left), c .make-room .kept .mem)
+pub widen-requires : goal.widen-requires
+widen-requires c = omega (arith, replace_work _ _ _ _ _ c.args.text.now _ refl c.requires.row c.requires.found c.room-with.result c.room-with.ensures c.if-room-with-mem.false, c.make-room.auto.mem)
 
-pub record-of-p-requires : need.record-of-p-requires
-record-of-p-requires c κs = replace-record _ _ _ _ _ (c .args .text .now) _ refl (c .pre .row) (c .pre .found) (c .room-with .result) (c .room-with .ensures) (c .if-room-with-mem .left) _ (c .make-room .kept .mem) (c .make-room .ensures) _ (c .widen .kept .mem) (c .widen .ensures .below)
+pub record-of-p-requires : goal.record-of-p-requires
+record-of-p-requires c = replace_record _ _ _ _ _ c.args.text.now _ refl c.requires.row c.requires.found c.room-with.result c.room-with.ensures c.if-room-with-mem.false _ c.make-room.auto.mem c.make-room.ensures _ c.widen.auto.mem c.widen.ensures.below
 
-pub put-text-requires : need.put-text-requires
-put-text-requires c κs = replace-can _ _ _ _ _ (c .args .text .now) _ refl (c .pre .row) (c .pre .found) (c .room-with .result) (c .room-with .ensures) (c .if-room-with-mem .left) _ (c .make-room .kept .mem) (c .make-room .ensures) _ (c .widen .kept .mem) (c .widen .ensures .below) _ (c .record-of-p .ensures)
+pub put-text-requires : goal.put-text-requires
+put-text-requires c = replace_can _ _ _ _ _ c.args.text.now _ refl c.requires.row c.requires.found c.room-with.result c.room-with.ensures c.if-room-with-mem.false _ c.make-room.auto.mem c.make-room.ensures _ c.widen.auto.mem c.widen.ensures.below _ c.record-of-p.ensures
 
-pub returns : need.returns
-returns c = record { kept = replace-changed _ _ _ _ _ (c .args .text .now) _ refl (c .pre .row) (c .pre .found) (c .room-with .result) (c .room-with .ensures) (c .if-room-with-mem .left) _ (c .make-room .kept .mem) (c .make-room .ensures) _ (c .widen .kept .mem) (c .widen .ensures .below) _ (c .record-of-p .ensures) (c .widen .ensures .there) _ (c .put-text .kept .mem) (c .put-text .ensures); says = replace-says _ _ _ _ _ (c .args .text .now) _ refl (c .pre .row) (c .pre .found) (c .room-with .result) (c .room-with .ensures) (c .if-room-with-mem .left) _ (c .make-room .kept .mem) (c .make-room .ensures) _ (c .widen .kept .mem) (c .widen .ensures .below) _ (c .record-of-p .ensures) (c .widen .ensures .there) _ (c .put-text .kept .mem) (c .put-text .ensures) }
+pub returns : goal.returns
+returns c = record { kept = replace_changed _ _ _ _ _ c.args.text.now _ refl c.requires.row c.requires.found c.room-with.result c.room-with.ensures c.if-room-with-mem.false _ c.make-room.auto.mem c.make-room.ensures _ c.widen.auto.mem c.widen.ensures.below _ c.record-of-p.ensures c.widen.ensures.there _ c.put-text.auto.mem c.put-text.ensures; says = replace_says _ _ _ _ _ c.args.text.now _ refl c.requires.row c.requires.found c.room-with.result c.room-with.ensures c.if-room-with-mem.false _ c.make-room.auto.mem c.make-room.ensures _ c.widen.auto.mem c.widen.ensures.below _ c.record-of-p.ensures c.widen.ensures.there _ c.put-text.auto.mem c.put-text.ensures }

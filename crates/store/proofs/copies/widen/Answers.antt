@@ -1,13 +1,13 @@
 -- What is proved by hand of widen.
-use native.Mathlib.Omega.{arith}
-use Rattle·store·proofs.Writes.{widen-begins, widen-on, widen-ends}
-use Rattle·store·proofs.copies.widen.Needs as need
+use Rattle.std.proofs.Common.{arith}
+use Rattle.store.proofs.Writes.{widen_begins, widen_on, widen_ends}
+use Rattle.store.proofs.copies.widen.Goals as goal
 
-pub loop-i-holds : need.loop-i-holds
-loop-i-holds c = widen-begins _ _ _
+pub loop-i-init : goal.loop-i-init
+loop-i-init c = widen_begins _ _ _
 
-pub loop-i-again : need.loop-i-again
-loop-i-again c = widen-on _ _ _ _ _ (c .pre) (c .loop-i-test .taken) (c .loop-i .inv)
+pub loop-i-preserved : goal.loop-i-preserved
+loop-i-preserved c = widen_on _ _ _ _ _ c.requires c.loop-i-test.true c.loop-i.invariant
 
-pub returns : need.returns
-returns c = widen-ends _ _ _ _ _ (c .loop-i-test .left) (c .loop-i .inv)
+pub returns : goal.returns
+returns c = widen_ends _ _ _ _ _ c.loop-i-test.false c.loop-i.invariant

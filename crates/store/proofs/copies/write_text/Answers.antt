@@ -1,37 +1,37 @@
 -- What is proved by hand of write_text.
-use native.Mathlib.Omega.{arith}
-use Rattle·store·proofs.Writes.{write-in, write-row, count-is, write-begins, can-next, newline-in, write-on, write-ends}
-use Rattle·store·proofs.copies.write_text.Needs as need
+use Rattle.std.proofs.Common.{arith}
+use Rattle.store.proofs.Writes.{write_in, write_row, count_is, write_begins, can_next, newline_in, write_on, write_ends}
+use Rattle.store.proofs.copies.write_text.Goals as goal
 
-pub index-mem-at : need.index-mem-at
-index-mem-at c = omega (arith, write-in _ _ _ _ _ (c .pre), write-row _ _ _ _ _ (c .pre))
+pub bounds-mem-at : goal.bounds-mem-at
+bounds-mem-at c = omega (arith, write_in _ _ _ _ _ c.requires, write_row _ _ _ _ _ c.requires)
 
-pub loop-i-holds : need.loop-i-holds
-loop-i-holds c = write-begins _ _ _ _ _ (c .pre)
+pub loop-i-init : goal.loop-i-init
+loop-i-init c = write_begins _ _ _ _ _ c.requires
 
-pub index-mem-at-in-loop-i : need.index-mem-at-in-loop-i
-index-mem-at-in-loop-i c = omega (arith, write-in _ _ _ _ _ (c .pre), write-row _ _ _ _ _ (c .pre), c .loop-i .inv .within, c .loop-i .inv .long)
+pub bounds-mem-at-in-loop-i : goal.bounds-mem-at-in-loop-i
+bounds-mem-at-in-loop-i c = omega (arith, write_in _ _ _ _ _ c.requires, write_row _ _ _ _ _ c.requires, c.loop-i.invariant.within, c.loop-i.invariant.long)
 
-pub copy-line-end-requires : need.copy-line-end-requires
-copy-line-end-requires c κs = can-next _ _ _ _ _ (c .pre) _ _ _ (c .loop-i .inv)
+pub copy-line-end-requires : goal.copy-line-end-requires
+copy-line-end-requires c = can_next _ _ _ _ _ c.requires _ _ _ c.loop-i.invariant
 
-pub offset-mem-end : need.offset-mem-end
-offset-mem-end c = let h = count-is _ _ _ _ _ (c .pre) in let x = newline-in _ _ _ _ _ (c .pre) _ _ _ (c .loop-i .inv) _ _ (c .copy-line-end .kept .mem) (c .copy-line-end .ensures) (omega (arith, c .loop-i-test .taken)) in omega (arith, x)
+pub offset-bounds-mem-end : goal.offset-bounds-mem-end
+offset-bounds-mem-end c = let h = count_is _ _ _ _ _ c.requires in let x = newline_in _ _ _ _ _ c.requires _ _ _ c.loop-i.invariant _ _ c.copy-line-end.auto.mem c.copy-line-end.ensures (omega (arith, c.loop-i-test.true)) in omega (arith, x)
 
-pub index-mem-end : need.index-mem-end
-index-mem-end c = let h = count-is _ _ _ _ _ (c .pre) in let x = newline-in _ _ _ _ _ (c .pre) _ _ _ (c .loop-i .inv) _ _ (c .copy-line-end .kept .mem) (c .copy-line-end .ensures) (omega (arith, c .loop-i-test .taken)) in omega (arith, x, c .copy-line-end .kept .mem, c .loop-i .inv .long)
+pub bounds-mem-end : goal.bounds-mem-end
+bounds-mem-end c = let h = count_is _ _ _ _ _ c.requires in let x = newline_in _ _ _ _ _ c.requires _ _ _ c.loop-i.invariant _ _ c.copy-line-end.auto.mem c.copy-line-end.ensures (omega (arith, c.loop-i-test.true)) in omega (arith, x, c.copy-line-end.auto.mem, c.loop-i.invariant.long)
 
-pub add-end : need.add-end
-add-end c = let h = count-is _ _ _ _ _ (c .pre) in let x = newline-in _ _ _ _ _ (c .pre) _ _ _ (c .loop-i .inv) _ _ (c .copy-line-end .kept .mem) (c .copy-line-end .ensures) (omega (arith, c .loop-i-test .taken)) in omega (arith, x)
+pub overflow-add-end : goal.overflow-add-end
+overflow-add-end c = let h = count_is _ _ _ _ _ c.requires in let x = newline_in _ _ _ _ _ c.requires _ _ _ c.loop-i.invariant _ _ c.copy-line-end.auto.mem c.copy-line-end.ensures (omega (arith, c.loop-i-test.true)) in omega (arith, x)
 
-pub loop-i-again : need.loop-i-again
-loop-i-again c = let h = count-is _ _ _ _ _ (c .pre) in write-on _ _ _ _ _ (c .pre) _ _ _ (c .loop-i .inv) _ _ (c .copy-line-end .kept .mem) (c .copy-line-end .ensures) (omega (arith, c .loop-i-test .taken))
+pub loop-i-preserved : goal.loop-i-preserved
+loop-i-preserved c = let h = count_is _ _ _ _ _ c.requires in write_on _ _ _ _ _ c.requires _ _ _ c.loop-i.invariant _ _ c.copy-line-end.auto.mem c.copy-line-end.ensures (omega (arith, c.loop-i-test.true))
 
-pub index-mem-at-2 : need.index-mem-at-2
-index-mem-at-2 c = omega (arith, write-in _ _ _ _ _ (c .pre), write-row _ _ _ _ _ (c .pre), c .loop-i .inv .within, c .loop-i .inv .long)
+pub bounds-mem-at-2 : goal.bounds-mem-at-2
+bounds-mem-at-2 c = omega (arith, write_in _ _ _ _ _ c.requires, write_row _ _ _ _ _ c.requires, c.loop-i.invariant.within, c.loop-i.invariant.long)
 
-pub copy-line-requires : need.copy-line-requires
-copy-line-requires c κs = can-next _ _ _ _ _ (c .pre) _ _ _ (c .loop-i .inv)
+pub copy-line-requires : goal.copy-line-requires
+copy-line-requires c = can_next _ _ _ _ _ c.requires _ _ _ c.loop-i.invariant
 
-pub returns : need.returns
-returns c = write-ends _ _ _ _ _ (c .pre) _ _ _ (c .loop-i .inv) _ _ (c .copy-line .kept .mem) (c .copy-line .ensures) (omega (arith, count-is _ _ _ _ _ (c .pre), c .loop-i-test .left))
+pub returns : goal.returns
+returns c = write_ends _ _ _ _ _ c.requires _ _ _ c.loop-i.invariant _ _ c.copy-line.auto.mem c.copy-line.ensures (omega (arith, count_is _ _ _ _ _ c.requires, c.loop-i-test.false))

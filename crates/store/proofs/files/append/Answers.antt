@@ -1,7 +1,7 @@
 -- What is proved by hand of append.
-use native.Mathlib.Omega.{arith}
-use Rattle·store·proofs.Records.{append-says}
-use Rattle·store·proofs.files.append.Needs as need
+use Rattle.std.proofs.Common.{arith}
+use Rattle.store.proofs.Records.{append_says}
+use Rattle.store.proofs.files.append.Goals as goal
 
-pub returns : need.returns
-returns c = append-says _ _ _ _ _ _ _ (c .pre) (c .copy-within .last .self) (c .copy-within .ensures .len) (λ k p q. c .copy-within .ensures .places .0 k 0 p (omega arith)) (λ k p. c .copy-within .ensures .places .1 k 0 p) (λ k p. c .copy-within .ensures .places .2 k 0 (omega arith)) (c .write-record .last .words) (c .write-record .ensures)
+pub returns : goal.returns
+returns c = append_says _ _ _ _ _ _ _ c.requires c.copy-within.new.self c.copy-within.ensures.len (λ k p q. c.copy-within.ensures.by_index.0 k 0 p (omega arith)) (λ k p. c.copy-within.ensures.by_index.1 k 0 p) (λ k p. c.copy-within.ensures.by_index.2 k 0 (omega arith)) c.write-record.new.words c.write-record.ensures

@@ -1,18 +1,16 @@
 -- What is proved by hand of file_index.
-use borrow.Author.Needs.{needs}
-use borrow.Author.Count.{below-more}
-use native.Mathlib.Omega.{arith}
-use Rattle·store·proofs.Tables.{record-in}
-use Rattle·store·proofs.files.file_index.Needs as need
+use Rattle.std.proofs.Common.{arith, rules, below_more}
+use Rattle.store.proofs.Tables.{record_in}
+use Rattle.store.proofs.files.file_index.Goals as goal
 
-pub index-words-files : need.index-words-files
-index-words-files c = record-in _ _ _ _ (c .pre) _ (c .loop-k-test .taken)
+pub bounds-words-files : goal.bounds-words-files
+bounds-words-files c = record_in _ _ _ _ c.requires _ c.loop-k-test.true
 
-pub returns-then-words-files : need.returns-then-words-files
-returns-then-words-files c = (c .loop-k-test .taken, c .if-words-files .taken, c .loop-k .inv)
+pub returns-then-words-files : goal.returns-then-words-files
+returns-then-words-files c = (c.loop-k-test.true, c.if-words-files.true, c.loop-k.invariant)
 
-pub loop-k-again : need.loop-k-again
-loop-k-again c = below-more _ _ (c .loop-k .inv) (c .if-words-files .left)
+pub loop-k-preserved : goal.loop-k-preserved
+loop-k-preserved c = below_more _ _ c.loop-k.invariant c.if-words-files.false
 
-pub returns : need.returns
-returns c = λ j h e. c .loop-k .inv j (omega arith) e
+pub returns : goal.returns
+returns c = λ j h e. c.loop-k.invariant j (omega arith) e

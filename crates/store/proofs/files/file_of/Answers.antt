@@ -1,9 +1,9 @@
 -- What is proved by hand of file_of.
-use Rattle·store·proofs.Drops.{file-unknown, file-of-says}
-use Rattle·store·proofs.files.file_of.Needs as need
+use Rattle.store.proofs.Drops.{file_unknown, file_of_says}
+use Rattle.store.proofs.files.file_of.Goals as goal
 
-pub returns-in-rest : need.returns-in-rest
-returns-in-rest c = file-unknown _ _ _ _ (c .pre) _ (c .in-rest .ensures tt)
+pub returns-in-default : goal.returns-in-default
+returns-in-default c = file_unknown _ _ _ _ c.requires _ c.in-default.ensures
 
-pub returns : need.returns
-returns c = file-of-says _ _ _ _ (c .pre) _ _ (c .in-Some .ensures tt .0) (c .in-Some .ensures tt .1) (c .file-index .result) (c .file-index .ensures)
+pub returns : goal.returns
+returns c = file_of_says _ _ _ _ c.requires _ _ c.in-Some.ensures.0 c.in-Some.ensures.1 c.file-index.result c.file-index.ensures

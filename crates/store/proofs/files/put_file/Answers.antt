@@ -1,9 +1,9 @@
 -- What is proved by hand of put_file.
-use Rattle·store·proofs.Tables.{can-enlist, put-says}
-use Rattle·store·proofs.files.put_file.Needs as need
+use Rattle.store.proofs.Tables.{can_enlist, put_says}
+use Rattle.store.proofs.files.put_file.Goals as goal
 
-pub enlist-requires : need.enlist-requires
-enlist-requires c κs = can-enlist _ _ _ _ _ _ _ _ _ (c .pre) _ (c .append-p .kept .mem) _ (c .append-p .ensures)
+pub enlist-requires : goal.enlist-requires
+enlist-requires c = can_enlist _ _ _ _ _ _ _ _ _ c.requires _ c.append-p.auto.mem _ c.append-p.ensures
 
-pub returns : need.returns
-returns c = put-says _ _ _ _ _ _ _ _ _ (c .pre) _ (c .append-p .kept .mem) _ (c .append-p .ensures) (c .enlist .last .files) (c .enlist .kept .files) (c .enlist .ensures)
+pub returns : goal.returns
+returns c = put_says _ _ _ _ _ _ _ _ _ c.requires _ c.append-p.auto.mem _ c.append-p.ensures c.enlist.new.files c.enlist.auto.files c.enlist.ensures

@@ -1,21 +1,19 @@
 -- What is proved by hand of number_lines.
-use borrow.Author.Needs.{needs}
-use native.Mathlib.Omega.{arith}
-use Prim.Native.Nat.{_≤_}
-use Rattle·store·proofs.Numbering.{begins, can-intern, to-in, steps, ends}
-use Rattle·store·proofs.numbers.number_lines.Needs as need
+use Rattle.std.proofs.Common.{◌≤◌, arith, rules}
+use Rattle.store.proofs.Numbering.{begins, can_intern, to_in, steps, ends}
+use Rattle.store.proofs.numbers.number_lines.Goals as goal
 
-pub lines-holds : need.lines-holds
-lines-holds c = begins _ _ _ _ _ _ (c .pre)
+pub lines-init : goal.lines-init
+lines-init c = begins _ _ _ _ _ _ c.requires
 
-pub intern-n-requires : need.intern-n-requires
-intern-n-requires c κs = can-intern _ _ _ _ _ _ _ _ _ _ (c .pre) (c .lines .inv) (c .line-end-to .ensures)
+pub intern-n-requires : goal.intern-n-requires
+intern-n-requires c = can_intern _ _ _ _ _ _ _ _ _ _ c.requires c.lines.invariant c.line-end-to.ensures
 
-pub returns-then-to-len : need.returns-then-to-len
-returns-then-to-len c = ends _ _ _ _ _ _ _ _ _ _ (c .pre) (c .lines .inv) (c .line-end-to .ensures) _ _ (c .intern-n .ensures) (c .intern-n .kept .mem) (c .if-to-len .taken)
+pub returns-then-to-len : goal.returns-then-to-len
+returns-then-to-len c = ends _ _ _ _ _ _ _ _ _ _ c.requires c.lines.invariant c.line-end-to.ensures _ _ c.intern-n.ensures c.intern-n.auto.mem c.if-to-len.true
 
-pub lines-less : need.lines-less
-lines-less c = omega (arith, c .line-end-to .ensures .onward, to-in _ _ _ _ _ _ _ _ _ _ (c .pre) (c .lines .inv) (c .line-end-to .ensures))
+pub lines-smaller : goal.lines-smaller
+lines-smaller c = omega (arith, c.line-end-to.ensures.onward, to_in _ _ _ _ _ _ _ _ _ _ c.requires c.lines.invariant c.line-end-to.ensures)
 
-pub lines-again : need.lines-again
-lines-again c = steps _ _ _ _ _ _ _ _ _ _ (c .pre) (c .lines .inv) (c .line-end-to .ensures) _ _ (c .intern-n .ensures) (c .intern-n .kept .mem) (c .if-to-len .left)
+pub lines-preserved : goal.lines-preserved
+lines-preserved c = steps _ _ _ _ _ _ _ _ _ _ c.requires c.lines.invariant c.line-end-to.ensures _ _ c.intern-n.ensures c.intern-n.auto.mem c.if-to-len.false

@@ -1,19 +1,19 @@
 -- What is proved by hand of record_of.
-use native.Mathlib.Omega.{arith}
-use Rattle·store·proofs.Changing.{k-row, record-says}
-use Rattle·store·proofs.place.record_of.Needs as need
+use Rattle.std.proofs.Common.{arith}
+use Rattle.store.proofs.Changing.{k_row, record_says}
+use Rattle.store.proofs.place.record_of.Goals as goal
 
-pub add-result : need.add-result
-add-result c = omega (arith, k-row _ _ _ (c .pre .0) (c .pre .1 .0) (c .pre .1 .1))
+pub overflow-add-result : goal.overflow-add-result
+overflow-add-result c = omega (arith, k_row _ _ _ c.requires.0 c.requires.1.0 c.requires.1.1)
 
-pub add-result-2 : need.add-result-2
-add-result-2 c = omega (arith, k-row _ _ _ (c .pre .0) (c .pre .1 .0) (c .pre .1 .1))
+pub overflow-add-result-2 : goal.overflow-add-result-2
+overflow-add-result-2 c = omega (arith, k_row _ _ _ c.requires.0 c.requires.1.0 c.requires.1.1)
 
-pub offset-mem-unit : need.offset-mem-unit
-offset-mem-unit c = omega (arith, k-row _ _ _ (c .pre .0) (c .pre .1 .0) (c .pre .1 .1))
+pub offset-bounds-mem-unit : goal.offset-bounds-mem-unit
+offset-bounds-mem-unit c = omega (arith, k_row _ _ _ c.requires.0 c.requires.1.0 c.requires.1.1)
 
-pub index-mem-unit : need.index-mem-unit
-index-mem-unit c = k-row _ _ _ (c .pre .0) (c .pre .1 .0) (c .pre .1 .1)
+pub bounds-mem-unit : goal.bounds-mem-unit
+bounds-mem-unit c = k_row _ _ _ c.requires.0 c.requires.1.0 c.requires.1.1
 
-pub returns : need.returns
-returns c = record-says _ _ _ (c .pre .0) (c .pre .1 .0) (c .pre .1 .1)
+pub returns : goal.returns
+returns c = record_says _ _ _ c.requires.0 c.requires.1.0 c.requires.1.1

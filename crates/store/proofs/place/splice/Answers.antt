@@ -1,8 +1,7 @@
 -- What is proved by hand of splice.
-use native.Mathlib.Omega.{arith}
-use mathlib.Core.Path.{_≡_, _∙_, ap}
-use Rattle·store·proofs.Places.{spliced}
-use Rattle·store·proofs.place.splice.Needs as need
+use Rattle.std.proofs.Common.{◌≡◌, ap, ◌∙◌, arith}
+use Rattle.store.proofs.Places.{spliced}
+use Rattle.store.proofs.place.splice.Goals as goal
 
-pub returns : need.returns
-returns c = spliced _ _ _ _ _ _ (c .copy-within .last .self) (c .widen .last .mem) (c .pre .0) (c .pre .1 .0) (c .pre .1 .1 .0) (c .pre .1 .1 .1) (c .copy-within .ensures .len) (c .widen .kept .mem) (λ k p q. c .copy-within .ensures .places .0 k 0 p (omega arith)) (λ k p. c .copy-within .ensures .places .1 k 0 p) (c .widen .ensures)
+pub returns : goal.returns
+returns c = spliced _ _ _ _ _ _ c.copy-within.new.self c.widen.new.mem c.requires.0 c.requires.1.0 c.requires.1.1.0 c.requires.1.1.1 c.copy-within.ensures.len c.widen.auto.mem (λ k p q. c.copy-within.ensures.by_index.0 k 0 p (omega arith)) (λ k p. c.copy-within.ensures.by_index.1 k 0 p) c.widen.ensures

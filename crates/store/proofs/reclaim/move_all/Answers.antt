@@ -1,22 +1,22 @@
 -- What is proved by hand of move_all.
-use native.Mathlib.Omega.{arith}
-use Rattle·store·proofs.Moving.{w-in, many-in, many-is, move-begins, can-move, moves-on, move-ends}
-use Rattle·store·proofs.reclaim.move_all.Needs as need
+use Rattle.std.proofs.Common.{arith}
+use Rattle.store.proofs.Moving.{w_in, many_in, many_is, move_begins, can_move, moves_on, move_ends}
+use Rattle.store.proofs.reclaim.move_all.Goals as goal
 
-pub loop-k-holds : need.loop-k-holds
-loop-k-holds c = move-begins _ _ _ _ _ _ (c .pre .0) (c .pre .1)
+pub loop-k-init : goal.loop-k-init
+loop-k-init c = move_begins _ _ _ _ _ _ c.requires.0 c.requires.1
 
-pub move-file-r-requires : need.move-file-r-requires
-move-file-r-requires c κs = let e = many-is _ _ _ _ _ _ (c .pre .0) in can-move _ _ _ _ _ _ (c .pre .0) _ _ (c .loop-k .inv) (omega (arith, c .loop-k-test .taken))
+pub move-file-r-requires : goal.move-file-r-requires
+move-file-r-requires c = let e = many_is _ _ _ _ _ _ c.requires.0 in can_move _ _ _ _ _ _ c.requires.0 _ _ c.loop-k.invariant (omega (arith, c.loop-k-test.true))
 
-pub loop-k-again : need.loop-k-again
-loop-k-again c = let e = many-is _ _ _ _ _ _ (c .pre .0) in moves-on _ _ _ _ _ _ (c .pre .0) _ _ (c .loop-k .inv) (omega (arith, c .loop-k-test .taken)) _ _ (c .move-file-r .kept .mem) (c .move-file-r .ensures)
+pub loop-k-preserved : goal.loop-k-preserved
+loop-k-preserved c = let e = many_is _ _ _ _ _ _ c.requires.0 in moves_on _ _ _ _ _ _ c.requires.0 _ _ c.loop-k.invariant (omega (arith, c.loop-k-test.true)) _ _ c.move-file-r.auto.mem c.move-file-r.ensures
 
-pub returns : need.returns
-returns c = let e = many-is _ _ _ _ _ _ (c .pre .0) in move-ends _ _ _ _ _ _ (c .pre .0) _ _ (c .loop-k .inv) (omega (arith, c .loop-k-test .left))
+pub returns : goal.returns
+returns c = let e = many_is _ _ _ _ _ _ c.requires.0 in move_ends _ _ _ _ _ _ c.requires.0 _ _ c.loop-k.invariant (omega (arith, c.loop-k-test.false))
 
-pub index-mem-files-in-loop-k : need.index-mem-files-in-loop-k
-index-mem-files-in-loop-k c = let e = many-is _ _ _ _ _ _ (c .pre .0) in omega (arith, many-in _ _ _ _ _ _ (c .pre .0), w-in _ _ _ _ _ _ (c .pre .0), c .loop-k .inv .long, c .pre .0 .table-below, c .pre .0 .apart, c .pre .0 .above)
+pub bounds-mem-files-in-loop-k : goal.bounds-mem-files-in-loop-k
+bounds-mem-files-in-loop-k c = let e = many_is _ _ _ _ _ _ c.requires.0 in omega (arith, many_in _ _ _ _ _ _ c.requires.0, w_in _ _ _ _ _ _ c.requires.0, c.loop-k.invariant.long, c.requires.0.table_below, c.requires.0.apart, c.requires.0.above)
 
-pub index-mem-files-in-loop-k-2 : need.index-mem-files-in-loop-k-2
-index-mem-files-in-loop-k-2 c = let e = many-is _ _ _ _ _ _ (c .pre .0) in omega (arith, many-in _ _ _ _ _ _ (c .pre .0), w-in _ _ _ _ _ _ (c .pre .0), c .move-file-r .kept .mem, c .loop-k .inv .long, c .pre .0 .table-below, c .pre .0 .apart, c .pre .0 .above)
+pub bounds-mem-files-in-loop-k-2 : goal.bounds-mem-files-in-loop-k-2
+bounds-mem-files-in-loop-k-2 c = let e = many_is _ _ _ _ _ _ c.requires.0 in omega (arith, many_in _ _ _ _ _ _ c.requires.0, w_in _ _ _ _ _ _ c.requires.0, c.move-file-r.auto.mem, c.loop-k.invariant.long, c.requires.0.table_below, c.requires.0.apart, c.requires.0.above)

@@ -1,17 +1,15 @@
 -- What is proved by hand of close.
-use native.Mathlib.Omega.{arith}
-use mathlib.Core.Path.{refl, subst}
-use lib.ListN.{length}
-use Rattle·semantics.specs.Names.{Texts}
-use Rattle·store·specs.Changes.{kept-texts, CloseSays}
-use Rattle·store·proofs.Closing.{long-of, sealed, texts-sealed, unchanged, none-open, not-open}
-use Rattle·store·proofs.texts.close.Needs as need
+use Rattle.std.proofs.Common.{length, refl, subst, arith}
+use Rattle.semantics.specs.Names.{Texts}
+use Rattle.store.specs.Changes.{kept_texts, CloseSays}
+use Rattle.store.proofs.Closing.{long_of, sealed, texts_sealed, unchanged, none_open, not_open}
+use Rattle.store.proofs.texts.close.Goals as goal
 
-pub returns-then-mem-lt-LEAST : need.returns-then-mem-lt-LEAST
-returns-then-mem-lt-LEAST c = record { kept = c .pre .kept; says = not-open _ _ _ refl (none-open _ (c .args .name .now) (c .pre .kept) (c .if-mem-lt-LEAST .taken)); stays = unchanged _ _ _ }
+pub returns-then-mem-lt-LEAST : goal.returns-then-mem-lt-LEAST
+returns-then-mem-lt-LEAST c = record { kept = c.requires.kept; says = not_open _ _ _ refl (none_open _ c.args.name.now c.requires.kept c.if-mem-lt-LEAST.true); stays = unchanged _ _ _ }
 
-pub close-in-requires : need.close-in-requires
-close-in-requires c κs = long-of _ _ (c .pre .kept) (c .pre .work) (c .if-mem-lt-LEAST .left)
+pub close-in-requires : goal.close-in-requires
+close-in-requires c = long_of _ _ c.requires.kept c.requires.work c.if-mem-lt-LEAST.false
 
-pub returns : need.returns
-returns c = record { kept = sealed _ _ _ (c .pre .kept) (c .if-mem-lt-LEAST .left) (c .close-in .kept .mem) (c .close-in .ensures .kept); says = subst (λ (q : Texts). CloseSays (kept-texts (c .args .mem .now)) (c .args .name .now) q (c .close-in .result)) (texts-sealed (c .args .mem .now) (c .close-in .last .mem) (c .close-in .kept .mem)) (c .close-in .ensures .says); stays = c .close-in .ensures .kept .stays }
+pub returns : goal.returns
+returns c = record { kept = sealed _ _ _ c.requires.kept c.if-mem-lt-LEAST.false c.close-in.auto.mem c.close-in.ensures.kept; says = subst (λ (q : Texts). CloseSays (kept_texts c.args.mem.now) c.args.name.now q c.close-in.result) (texts_sealed c.args.mem.now c.close-in.new.mem c.close-in.auto.mem) c.close-in.ensures.says; stays = c.close-in.ensures.kept.stays }

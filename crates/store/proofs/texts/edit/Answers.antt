@@ -1,17 +1,15 @@
 -- What is proved by hand of edit.
-use native.Mathlib.Omega.{arith}
-use mathlib.Core.Path.{refl, subst}
-use lib.ListN.{length}
-use Rattle·semantics.specs.Names.{Texts}
-use Rattle·store·specs.Changes.{kept-texts, EditSays}
-use Rattle·store·proofs.Closing.{long-of, sealed, texts-sealed, unchanged, none-open, not-open}
-use Rattle·store·proofs.texts.edit.Needs as need
+use Rattle.std.proofs.Common.{length, refl, subst, arith}
+use Rattle.semantics.specs.Names.{Texts}
+use Rattle.store.specs.Changes.{kept_texts, EditSays}
+use Rattle.store.proofs.Closing.{long_of, sealed, texts_sealed, unchanged, none_open, not_open}
+use Rattle.store.proofs.texts.edit.Goals as goal
 
-pub returns-then-mem-lt-LEAST : need.returns-then-mem-lt-LEAST
-returns-then-mem-lt-LEAST c = record { kept = c .pre .kept; says = (refl, none-open _ (c .args .name .now) (c .pre .kept) (c .if-mem-lt-LEAST .taken)); stays = unchanged _ _ _ }
+pub returns-then-mem-lt-LEAST : goal.returns-then-mem-lt-LEAST
+returns-then-mem-lt-LEAST c = record { kept = c.requires.kept; says = (refl, none_open _ c.args.name.now c.requires.kept c.if-mem-lt-LEAST.true); stays = unchanged _ _ _ }
 
-pub edit-in-requires : need.edit-in-requires
-edit-in-requires c κs = long-of _ _ (c .pre .kept) (c .pre .work) (c .if-mem-lt-LEAST .left)
+pub edit-in-requires : goal.edit-in-requires
+edit-in-requires c = long_of _ _ c.requires.kept c.requires.work c.if-mem-lt-LEAST.false
 
-pub returns : need.returns
-returns c = record { kept = sealed _ _ _ (c .pre .kept) (c .if-mem-lt-LEAST .left) (c .edit-in .kept .mem) (c .edit-in .ensures .kept); says = subst (λ (q : Texts). EditSays (kept-texts (c .args .mem .now)) (length (c .args .mem .now)) (c .args .name .now) (c .args .from) (c .args .to) (c .args .new .now) q (c .edit-in .result)) (texts-sealed (c .args .mem .now) (c .edit-in .last .mem) (c .edit-in .kept .mem)) (c .edit-in .ensures .says); stays = c .edit-in .ensures .kept .stays }
+pub returns : goal.returns
+returns c = record { kept = sealed _ _ _ c.requires.kept c.if-mem-lt-LEAST.false c.edit-in.auto.mem c.edit-in.ensures.kept; says = subst (λ (q : Texts). EditSays (kept_texts c.args.mem.now) (length c.args.mem.now) c.args.name.now c.args.from c.args.to c.args.new.now q c.edit-in.result) (texts_sealed c.args.mem.now c.edit-in.new.mem c.edit-in.auto.mem) c.edit-in.ensures.says; stays = c.edit-in.ensures.kept.stays }

@@ -1,29 +1,26 @@
 -- What is proved by hand of weigh.
-use native.Mathlib.Omega.{arith}
-use mathlib.Core.Path.{_≡_, sym, ap, subst}
-use Prim.Native.Nat.{ℕ, _+_, _<_, max}
-use lib.ListN.{getD}
-use Rattle·store·specs.Files.{texts}
-use Rattle·store·proofs.Loads.{Weighing, weigh-ends, weigh-most, weigh-on, name-in, row-in, record-whole}
-use Rattle·store·proofs.weights.weigh.Needs as need
+use Rattle.std.proofs.Common.{◌≡◌, ℕ, ◌+◌, ◌<◌, max, get_or, sym, ap, subst, arith}
+use Rattle.store.specs.Files.{texts}
+use Rattle.store.proofs.Loads.{Weighing, weigh_ends, weigh_most, weigh_on, name_in, row_in, record_whole}
+use Rattle.store.proofs.weights.weigh.Goals as goal
 
-pub index-words-p : need.index-words-p
-index-words-p c = let h : c .loop-k .k < getD (c .args .files .now) 0 0 = omega (arith, c .pre .there, c .loop-k-test .taken) in omega (arith, record-whole _ _ _ _ (c .pre .fits) _ h)
+pub bounds-words-p : goal.bounds-words-p
+bounds-words-p c = let h : c.loop-k.k < get_or c.args.files.now 0 0 = omega (arith, c.requires.there, c.loop-k-test.true) in omega (arith, record_whole _ _ _ _ c.requires.fits _ h)
 
-pub place-of-requires : need.place-of-requires
-place-of-requires c κs = let h : c .loop-k .k < getD (c .args .files .now) 0 0 = omega (arith, c .pre .there, c .loop-k-test .taken) in row-in _ _ _ _ (c .pre .fits) _ h
+pub place-of-requires : goal.place-of-requires
+place-of-requires c = let h : c.loop-k.k < get_or c.args.files.now 0 0 = omega (arith, c.requires.there, c.loop-k-test.true) in row_in _ _ _ _ c.requires.fits _ h
 
-pub index-words-place-of : need.index-words-place-of
-index-words-place-of c = let h : c .loop-k .k < getD (c .args .files .now) 0 0 = omega (arith, c .pre .there, c .loop-k-test .taken) in omega (arith, c .place-of .ensures, name-in _ _ _ _ (c .pre .fits) _ h)
+pub bounds-words-place-of : goal.bounds-words-place-of
+bounds-words-place-of c = let h : c.loop-k.k < get_or c.args.files.now 0 0 = omega (arith, c.requires.there, c.loop-k-test.true) in omega (arith, c.place-of.ensures, name_in _ _ _ _ c.requires.fits _ h)
 
-pub index-words-p-in-loop-k : need.index-words-p-in-loop-k
-index-words-p-in-loop-k c = let h : c .loop-k .k < getD (c .args .files .now) 0 0 = omega (arith, c .pre .there, c .loop-k-test .taken) in omega (arith, record-whole _ _ _ _ (c .pre .fits) _ h)
+pub bounds-words-p-in-loop-k : goal.bounds-words-p-in-loop-k
+bounds-words-p-in-loop-k c = let h : c.loop-k.k < get_or c.args.files.now 0 0 = omega (arith, c.requires.there, c.loop-k-test.true) in omega (arith, record_whole _ _ _ _ c.requires.fits _ h)
 
-pub add-total-in-loop-k-2 : need.add-total-in-loop-k-2
-add-total-in-loop-k-2 c = let h : c .loop-k .k < getD (c .args .files .now) 0 0 = omega (arith, c .pre .there, c .loop-k-test .taken) in let x = weigh-most _ _ _ _ (c .pre .fits) _ _ _ _ _ h (c .loop-k-test .taken) (c .loop-k .inv) in let e = ap (λ (p : ℕ). getD (c .args .words .now) p 0) (c .place-of .ensures) in omega (arith, x, e, c .pre .light)
+pub overflow-add-total-in-loop-k-2 : goal.overflow-add-total-in-loop-k-2
+overflow-add-total-in-loop-k-2 c = let h : c.loop-k.k < get_or c.args.files.now 0 0 = omega (arith, c.requires.there, c.loop-k-test.true) in let x = weigh_most _ _ _ _ c.requires.fits _ _ _ _ _ h c.loop-k-test.true c.loop-k.invariant in let e = ap (λ (p : ℕ). get_or c.args.words.now p 0) c.place-of.ensures in omega (arith, x, e, c.requires.light)
 
-pub loop-k-again : need.loop-k-again
-loop-k-again c = let h : c .loop-k .k < getD (c .args .files .now) 0 0 = omega (arith, c .pre .there, c .loop-k-test .taken) in subst (λ (x : ℕ). Weighing (texts (c .args .unit) (c .args .files .now) (c .args .words .now)) (c .args .from) (c .args .to) (c .loop-k .total + (16 + (getD (c .args .words .now) (c .place-of .result) 0 + getD (c .args .words .now) (getD (c .args .files .now) (1 + c .loop-k .k) 0 + 1) 0))) x (c .loop-k .k + 1)) (sym (c .larger-largest .ensures)) (subst (λ (p : ℕ). Weighing (texts (c .args .unit) (c .args .files .now) (c .args .words .now)) (c .args .from) (c .args .to) (c .loop-k .total + (16 + (getD (c .args .words .now) p 0 + getD (c .args .words .now) (getD (c .args .files .now) (1 + c .loop-k .k) 0 + 1) 0))) (max (getD (c .args .words .now) (getD (c .args .files .now) (1 + c .loop-k .k) 0 + 1) 0) (c .loop-k .largest)) (c .loop-k .k + 1)) (sym (c .place-of .ensures)) (weigh-on _ _ _ _ (c .pre .fits) _ _ _ _ _ h (c .loop-k-test .taken) (c .loop-k .inv)))
+pub loop-k-preserved : goal.loop-k-preserved
+loop-k-preserved c = let h : c.loop-k.k < get_or c.args.files.now 0 0 = omega (arith, c.requires.there, c.loop-k-test.true) in subst (λ (x : ℕ). Weighing (texts c.args.unit c.args.files.now c.args.words.now) c.args.from c.args.to (c.loop-k.total + (16 + (get_or c.args.words.now c.place-of.result 0 + get_or c.args.words.now (get_or c.args.files.now (1 + c.loop-k.k) 0 + 1) 0))) x (c.loop-k.k + 1)) (sym c.larger-largest.ensures) (subst (λ (p : ℕ). Weighing (texts c.args.unit c.args.files.now c.args.words.now) c.args.from c.args.to (c.loop-k.total + (16 + (get_or c.args.words.now p 0 + get_or c.args.words.now (get_or c.args.files.now (1 + c.loop-k.k) 0 + 1) 0))) (max (get_or c.args.words.now (get_or c.args.files.now (1 + c.loop-k.k) 0 + 1) 0) c.loop-k.largest) (c.loop-k.k + 1)) (sym c.place-of.ensures) (weigh_on _ _ _ _ c.requires.fits _ _ _ _ _ h c.loop-k-test.true c.loop-k.invariant))
 
-pub returns : need.returns
-returns c = weigh-ends _ _ _ _ _ _ (c .loop-k-test .left) (c .loop-k .inv)
+pub returns : goal.returns
+returns c = weigh_ends _ _ _ _ _ _ c.loop-k-test.false c.loop-k.invariant

@@ -1,11 +1,8 @@
-use mathlib.Core.Path.{_≡_, ap, _∙_}
-use Prim.Native.Nat.{_+_, _-_}
-use native.Mathlib.Omega.{arith}
-use lib.ListN.{take, drop}
-use Rattle·symbols·proofs.Partial.{text-is}
-use Rattle·symbols·proofs.read.text_at.Needs as need
+use Rattle.std.proofs.Common.{◌≡◌, ◌+◌, ◌-◌, take, drop, ap, ◌∙◌, arith}
+use Rattle.symbols.proofs.Partial.{text_is}
+use Rattle.symbols.proofs.read.text_at.Goals as goal
 
-pub returns : need.returns
+pub returns : goal.returns
 returns c =
-    let e : (c .min-from .result + c .min-len .result) - c .min-from .result ≡ c .min-len .result = omega arith in
-    ap (λ n. take n (drop (c .min-from .result) (c .args .words .now))) e ∙ text-is (c .args .words .now) (c .args .from) (c .args .len) (c .min-from .result) (c .min-len .result) (c .min-from .ensures) (c .min-len .ensures)
+    let e : (c.min-from.result + c.min-len.result) - c.min-from.result ≡ c.min-len.result = omega arith in
+    ap (λ n. take n (drop c.min-from.result c.args.words.now)) e ∙ text_is c.args.words.now c.args.from c.args.len c.min-from.result c.min-len.result c.min-from.ensures c.min-len.ensures

@@ -1,15 +1,12 @@
-use mathlib.Core.Path.{_≡_, sym, ap, subst, _∙_}
-use Prim.Native.Nat.{_-_, _≤_, _<_}
-use native.Mathlib.Omega.{arith}
-use lib.ListN.{length, take}
-use Rattle·syntax·proofs.Listing.{take-most}
-use Rattle·syntax·proofs.Whole.{end-within}
-use Rattle·syntax·proofs.read.place_of.Needs as need
+use Rattle.std.proofs.Common.{◌≡◌, ◌-◌, ◌<◌, ◌≤◌, length, take, sym, ap, ◌∙◌, subst, arith}
+use Rattle.syntax.proofs.Listing.{take_most}
+use Rattle.syntax.proofs.Whole.{end_within}
+use Rattle.syntax.proofs.read.place_of.Goals as goal
 
-pub cast-end : need.cast-end
-cast-end c =
-    let line = take (c .args .len - 0) (c .args .words .now) in
-    let e = c .last-end-end .ensures in
-    let h = end-within line in
-    let k = take-most (c .args .len - 0) (c .args .words .now) in
-    omega (arith, e, h, k, c .pre)
+pub overflow-cast-end : goal.overflow-cast-end
+overflow-cast-end c =
+    let line = take (c.args.len - 0) c.args.words.now in
+    let e = c.last-end-end.ensures in
+    let h = end_within line in
+    let k = take_most (c.args.len - 0) c.args.words.now in
+    omega (arith, e, h, k, c.requires)

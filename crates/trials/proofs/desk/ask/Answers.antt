@@ -1,27 +1,23 @@
 -- What is proved by hand of ask.
-use mathlib.Core.Path.{_≡_, refl, sym, ap, _∙_}
-use Prim.Native.Nat.{ℕ, _+_}
-use native.Mathlib.Omega.{arith}
-use lib.Dec.{lit≤, lit<}
-use lib.ListN.{length, getD}
-use Rattle·trials·specs.Desk.{Ready}
-use Rattle·trials·proofs.Falling.{small-falls}
-use Rattle·trials·proofs.Desks.{answered}
-use Rattle·trials·proofs.desk.ask.Needs as need
+use Rattle.std.proofs.Common.{◌≡◌, ℕ, ◌+◌, length, get_or, sym, refl, ap, ◌∙◌, arith, lit<, lit≤}
+use Rattle.trials.specs.Desk.{Ready}
+use Rattle.trials.proofs.Falling.{small_falls}
+use Rattle.trials.proofs.Desks.{answered}
+use Rattle.trials.proofs.desk.ask.Goals as goal
 
-pub bring-requires : need.bring-requires
-bring-requires c κs = record { row = (lit≤ tt, c .pre .long, c .pre .small1, c .pre .fits); falls = small-falls; honest = c .pre .honest; runs1 = lit< tt }
+pub bring-requires : goal.bring-requires
+bring-requires c = record { row = (lit≤ tt, c.requires.long, c.requires.small1, c.requires.fits); falls = small_falls; honest = c.requires.honest; runs1 = lit< tt }
 
-pub returns : need.returns
+pub returns : goal.returns
 returns c =
-    let e = c .in-Some .ensures tt in
-    let l = e .row .0 in
-    let a = c .pre .long in
-    let b = c .pre .small1 in
-    let x = answered (c .args .row .now) (c .args .k .now) (c .pre) in
-    let n = e .says .3 in
-    let g = x .1 in
+    let e = c.in-Some.ensures in
+    let l = e.row.0 in
+    let a = c.requires.long in
+    let b = c.requires.small1 in
+    let x = answered c.args.row.now c.args.k.now c.requires in
+    let n = e.says.3 in
+    let g = x.1 in
     record {
-      ready = record { long = omega (arith, l, a); small1 = omega (arith, l, b); fits = e .row .1; honest = e .honest };
-      says = (e .says .0 ∙ ap length (x .0), c .first-word .ensures ∙ ap (λ q. getD q 0 0) (e .says .1 ∙ x .0), omega (arith, n, g));
+      ready = record { long = omega (arith, l, a); small1 = omega (arith, l, b); fits = e.row.1; honest = e.honest };
+      says = (e.says.0 ∙ ap length x.0, c.first-word.ensures ∙ ap (λ q. get_or q 0 0) (e.says.1 ∙ x.0), omega (arith, n, g));
     }

@@ -1,11 +1,10 @@
 -- What is proved by hand of first_word.
-use mathlib.Core.Logic.{inl, inr}
-use lib.ListN.{drop}
-use Rattle·trials·proofs.Desks.{no-first, no-work, a-first}
-use Rattle·trials·proofs.desk.first_word.Needs as need
+use Rattle.std.proofs.Common.{drop, inl, inr}
+use Rattle.trials.proofs.Desks.{no_first, no_work, a_first}
+use Rattle.trials.proofs.desk.first_word.Goals as goal
 
-pub returns-then-n-eq0 : need.returns-then-n-eq0
-returns-then-n-eq0 c = elim (c .then-n-eq0 .either) [ inl e ↦ no-first (c .args .n) (drop 8208 (c .args .row .now)) e | inr e ↦ no-work (c .args .n) (c .args .row .now) (e .1) ]
+pub returns-then-n-eq0 : goal.returns-then-n-eq0
+returns-then-n-eq0 c = elim c.then-n-eq0.either [ inl e ↦ no_first c.args.n (drop 8208 c.args.row.now) e | inr e ↦ no_work c.args.n c.args.row.now e.1 ]
 
-pub returns : need.returns
-returns c = a-first (c .args .n) (c .args .row .now) (c .if-n-eq0 .left)
+pub returns : goal.returns
+returns c = a_first c.args.n c.args.row.now c.if-n-eq0.false

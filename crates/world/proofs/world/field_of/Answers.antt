@@ -1,15 +1,15 @@
-use mathlib.Core.Path.{sym, subst}
-use Rattle·checker.specs.Rows.{SomeSmall, FieldSays}
-use Rattle·world·specs.World.{small-world, row-of, card-of, sig-of}
-use Rattle·world·proofs.Fit.{fits, field-says, field-small}
-use Rattle·world·proofs.world.field_of.Needs as need
+use Rattle.std.proofs.Common.{sym, subst}
+use Rattle.checker.specs.Rows.{SomeSmall, FieldSays}
+use Rattle.world.specs.World.{small_world, row_of, card_of, sig_of}
+use Rattle.world.proofs.Fit.{fits, field_says, field_small}
+use Rattle.world.proofs.world.field_of.Goals as goal
 
-pub returns : need.returns
+pub returns : goal.returns
 returns c =
-    let n = c .args .sig .0 in
-    let w = c .args .word .now in
-    let e = sym (c .field-type .ensures) in
+    let n = c.args.sig.0 in
+    let w = c.args.word.now in
+    let e = sym c.field-type.ensures in
     record {
-      small = subst SomeSmall e (field-small (sig-of n .slots) (row-of (card-of n)) (fits n .row-fits) w);
-      is = subst (λ m. FieldSays small-world (sig-of n .slots) w m) e (field-says (sig-of n .slots) (row-of (card-of n)) (fits n .row-fits) w);
+      small = subst SomeSmall e (field_small (sig_of n).slots (row_of (card_of n)) (fits n).row_fits w);
+      is = subst (λ m. FieldSays small_world (sig_of n).slots w m) e (field_says (sig_of n).slots (row_of (card_of n)) (fits n).row_fits w);
     }

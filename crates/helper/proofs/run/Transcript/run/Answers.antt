@@ -1,24 +1,21 @@
-use mathlib.Core.Path.{_≡_, refl, sym, ap, subst, _∙_}
-use mathlib.Core.List.{[]}
-use lib.ListN.{length, take}
-use Rattle·std.specs.Of.Vec.{vec-items}
-use Rattle·std.proofs.shelf.Results.{err-from-errBy}
-use Rattle·helper·specs.Runs.{Runs, ends}
-use Rattle·helper·proofs.Steps.{turn, whole, started}
-use Rattle·helper·proofs.run.Transcript.run.Needs as need
+use Rattle.std.proofs.Common.{◌≡◌, [], length, take, vec_items, sym, refl, ap, ◌∙◌, subst}
+use Rattle.std.proofs.lemmas.Result.{err_from_is_err_and}
+use Rattle.helper.specs.Runs.{Runs, ends}
+use Rattle.helper.proofs.Steps.{turn, whole, started}
+use Rattle.helper.proofs.run.Transcript.run.Goals as goal
 
-pub loop-request-holds : need.loop-request-holds
-loop-request-holds g c = (c .pre .fits, refl, started _ _ _ _ _ (c .pre .replies) (c .pre .words))
+pub loop-request-init : goal.loop-request-init
+loop-request-init g c = (c.requires.fits, refl, started _ _ _ _ _ c.requires.replies c.requires.words)
 
-pub answer-reply-requires : need.answer-reply-requires
-answer-reply-requires g c κs = c .loop-request .inv .0
+pub answer-reply-requires : goal.answer-reply-requires
+answer-reply-requires g c = c.loop-request.invariant.0
 
-pub returns-in-Break-note : need.returns-in-Break-note
-returns-in-Break-note g c = record { fits = c .answer-reply .ensures .fits; runs = let p = err-from-errBy (c .from-residual .result) (c .from-residual .ensures .1) in rw (p .1) tt; lent = c .answer-reply .ensures .lent ∙ c .loop-request .inv .1 }
+pub returns-in-err-note : goal.returns-in-err-note
+returns-in-err-note g c = record { fits = c.answer-reply.ensures.fits; runs = let p = err_from_is_err_and c.from-residual.result c.from-residual.ensures.1 in rw p.1 tt; lent = c.answer-reply.ensures.lent ∙ c.loop-request.invariant.1 }
 
-pub loop-request-again : need.loop-request-again
-loop-request-again g c =
-    (c .answer-reply .ensures .fits, c .answer-reply .ensures .lent ∙ c .loop-request .inv .1, turn (g .H·Helper .words (c .args .helper .now)) (g .H·Helper .words (c .loop-request .helper)) (length (c .args .out .now)) (c .loop-request .request-index) (g .H·Helper .texts (c .args .helper .now)) (g .H·Helper .texts (c .loop-request .helper)) (g .H·Helper .texts (c .answer-reply .last .helper)) (c .args .requests .now) _ (vec-items (c .loop-request .self .replies)) (vec-items (c .note .last .self .replies)) (vec-items (c .loop-request .self .words)) (vec-items (c .note .last .self .words)) (c .loop-request .out) (c .answer-reply .last .out) (c .answer-reply .result) (c .loop-request .inv .2) (c .loop-request-test .taken) (c .loop-request .kept .out) (c .loop-request .inv .1) (c .answer-reply .ensures .says) (c .in-Continue-note .ensures tt .replies) (c .in-Continue-note .ensures tt .words))
+pub loop-request-preserved : goal.loop-request-preserved
+loop-request-preserved g c =
+    (c.answer-reply.ensures.fits, c.answer-reply.ensures.lent ∙ c.loop-request.invariant.1, turn (g.H.Helper.words c.args.helper.now) (g.H.Helper.words c.loop-request.helper) (length c.args.out.now) c.loop-request.request-index (g.H.Helper.texts c.args.helper.now) (g.H.Helper.texts c.loop-request.helper) (g.H.Helper.texts c.answer-reply.new.helper) c.args.requests.now _ (vec_items c.loop-request.self.replies) (vec_items c.note.new.self.replies) (vec_items c.loop-request.self.words) (vec_items c.note.new.self.words) c.loop-request.out c.answer-reply.new.out c.answer-reply.result c.loop-request.invariant.2 c.loop-request-test.true c.loop-request.auto.out c.loop-request.invariant.1 c.answer-reply.ensures.says c.in-ok-note.ensures.replies c.in-ok-note.ensures.words)
 
-pub returns : need.returns
-returns g c = record { fits = c .loop-request .inv .0; runs = whole _ _ _ _ _ _ _ (c .loop-request .request-index) (c .loop-request-test .left) (c .loop-request .inv .2); lent = c .loop-request .inv .1 }
+pub returns : goal.returns
+returns g c = record { fits = c.loop-request.invariant.0; runs = whole _ _ _ _ _ _ _ c.loop-request.request-index c.loop-request-test.false c.loop-request.invariant.2; lent = c.loop-request.invariant.1 }

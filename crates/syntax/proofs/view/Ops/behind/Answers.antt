@@ -1,12 +1,10 @@
-use mathlib.Core.Path.{refl, ap, _∙_}
-use Prim.Native.Nat.{_*_}
-use denote.Ref.{now}
-use Rattle·std.proofs.shelf.Lists.{take-rest}
-use Rattle·parser.specs.Rows.{ops}
-use Rattle·syntax·proofs.Views.{ops-drop}
-use Rattle·syntax·proofs.view.Ops.behind.Needs as need
+use Rattle.std.proofs.Common.{◌*◌, refl, ap, ◌∙◌}
+use Rattle.std.proofs.lemmas.List.{take_rest}
+use Rattle.parser.specs.Rows.{ops}
+use Rattle.syntax.proofs.Views.{ops_drop}
+use Rattle.syntax.proofs.view.Ops.behind.Goals as goal
 
-pub returns : need.returns
+pub returns : goal.returns
 returns c =
-    let code = now (now (c .args .self) .code) in
-    record { line = refl; code = λ line. ap (ops line) (take-rest code (5 * c .args .n)) ∙ ops-drop line code (c .args .n) (c .pre) }
+    let code = c.args.self.now.code.now in
+    record { line = refl; code = λ line. ap (ops line) (take_rest code (5 * c.args.n)) ∙ ops_drop line code c.args.n c.requires }

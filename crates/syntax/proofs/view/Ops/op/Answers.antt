@@ -1,13 +1,10 @@
-use mathlib.Core.Path.{_≡_, ap, sym, _∙_}
-use native.Mathlib.Nat.{zero-add}
-use denote.Ref.{now}
-use Rattle·std.specs.declared.option.Option.the-variants.{Some}
-use Rattle·syntax·proofs.Views.{ops-nth}
-use Rattle·syntax·proofs.view.Ops.op.Needs as need
+use Rattle.std.proofs.Common.{◌≡◌, Some, sym, ap, ◌∙◌, zero-add}
+use Rattle.syntax.proofs.Views.{ops_nth}
+use Rattle.syntax.proofs.view.Ops.op.Goals as goal
 
-pub returns : need.returns
+pub returns : goal.returns
 returns c =
-    let line = now (now (c .args .self) .line) in
-    let code = now (now (c .args .self) .code) in
-    let e = c .op-at .ensures line in
-    ops-nth line code (c .args .i) (c .pre) ∙ ap Some (sym (simp zero-add at e))
+    let line = c.args.self.now.line.now in
+    let code = c.args.self.now.code.now in
+    let e = c.op-at.ensures line in
+    ops_nth line code c.args.i c.requires ∙ ap Some (sym (simp zero-add at e))

@@ -1,11 +1,8 @@
-use mathlib.Core.Path.{_≡_, sym, _∙_}
-use Prim.Native.Nat.{ℕ}
-use native.Mathlib.Omega.{arith}
-use denote.Ref.{now}
-use Rattle·syntax·proofs.Views.{nth-none}
-use Rattle·syntax·proofs.view.Ops.result_at.Needs as need
+use Rattle.std.proofs.Common.{◌≡◌, ℕ, sym, ◌∙◌, arith}
+use Rattle.syntax.proofs.Views.{nth_none}
+use Rattle.syntax.proofs.view.Ops.result_at.Goals as goal
 
-pub returns-in-rest : need.returns-in-rest
-returns-in-rest c = λ t e.
-    let n = nth-none (now (now (c .args .self) .line)) (now (now (c .args .self) .code)) (c .args .i) (c .in-rest .ensures tt) in
-    let z : _≡_ {A = ℕ} 0 1 = cc in omega arith
+pub returns-in-default : goal.returns-in-default
+returns-in-default c = λ t e.
+    let n = nth_none c.args.self.now.line.now c.args.self.now.code.now c.args.i c.in-default.ensures in
+    let z : ◌≡◌ {A = ℕ} 0 1 = cc in omega arith

@@ -1,8 +1,7 @@
-use mathlib.Core.Path.{ap, sym}
-use denote.Ref.{now}
-use Rattle·syntax·specs.View.{slot-in}
-use Rattle·syntax·proofs.Views.{nth-none}
-use Rattle·syntax·proofs.view.Ops.slot_at.Needs as need
+use Rattle.std.proofs.Common.{sym, ap}
+use Rattle.syntax.specs.View.{slot_in}
+use Rattle.syntax.proofs.Views.{nth_none}
+use Rattle.syntax.proofs.view.Ops.slot_at.Goals as goal
 
-pub returns-in-None : need.returns-in-None
-returns-in-None c = record { within = λ h. absurd h; slot = sym (ap slot-in (nth-none (now (now (c .args .self) .line)) (now (now (c .args .self) .code)) (c .args .i) (c .in-None .ensures tt))) }
+pub returns-in-None : goal.returns-in-None
+returns-in-None c = record { within = λ h. absurd h; slot = sym (ap slot_in (nth_none c.args.self.now.line.now c.args.self.now.code.now c.args.i c.in-None.ensures)) }

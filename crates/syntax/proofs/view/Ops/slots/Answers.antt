@@ -1,25 +1,20 @@
-use mathlib.Core.Path.{_≡_, ap, sym, _∙_}
-use Prim.Native.Nat.{suc, _+_}
-use native.Mathlib.Omega.{arith}
-use native.Mathlib.Numerals.{add-one}
-use denote.Ref.{now}
-use lib.ListN.{drop}
-use Rattle·parser.specs.Rows.{ops}
-use Rattle·syntax·specs.View.{lead}
-use Rattle·syntax·proofs.Views.{lead-more, lead-ends}
-use Rattle·syntax·proofs.view.Ops.slots.Needs as need
+use Rattle.std.proofs.Common.{◌≡◌, suc, ◌+◌, drop, sym, ap, ◌∙◌, add-one, arith}
+use Rattle.parser.specs.Rows.{ops}
+use Rattle.syntax.specs.View.{lead}
+use Rattle.syntax.proofs.Views.{lead_more, lead_ends}
+use Rattle.syntax.proofs.view.Ops.slots.Goals as goal
 
-pub loop-n-again : need.loop-n-again
-loop-n-again c =
-    let os = ops (now (now (c .args .self) .line)) (now (now (c .args .self) .code)) in
-    let n = c .loop-n .n in
-    let m : lead (drop n os) ≡ suc (lead (drop (suc n) os)) = lead-more os n (sym (c .slot-at .ensures .slot) ∙ c .loop-n-test .taken) in
+pub loop-n-preserved : goal.loop-n-preserved
+loop-n-preserved c =
+    let os = ops c.args.self.now.line.now c.args.self.now.code.now in
+    let n = c.loop-n.n in
+    let m : lead (drop n os) ≡ suc (lead (drop (suc n) os)) = lead_more os n (sym c.slot-at.ensures.slot ∙ c.loop-n-test.true) in
     let e : lead (drop (n + 1) os) ≡ lead (drop (suc n) os) = ap (λ k. lead (drop k os)) (add-one n) in
-    (omega (arith, c .loop-n-test .ensures tt .within tt), omega (arith, m, e, c .loop-n .inv .1))
+    (omega (arith, c.loop-n-test.ensures.within tt), omega (arith, m, e, c.loop-n.invariant.1))
 
-pub returns : need.returns
+pub returns : goal.returns
 returns c =
-    let os = ops (now (now (c .args .self) .line)) (now (now (c .args .self) .code)) in
-    let n = c .loop-n .n in
-    let m : lead (drop n os) ≡ 0 = lead-ends os n (sym (c .slot-at .ensures .slot) ∙ c .loop-n-test .left) in
-    record { within = c .loop-n .inv .0; leads = omega (arith, m, c .loop-n .inv .1) }
+    let os = ops c.args.self.now.line.now c.args.self.now.code.now in
+    let n = c.loop-n.n in
+    let m : lead (drop n os) ≡ 0 = lead_ends os n (sym c.slot-at.ensures.slot ∙ c.loop-n-test.false) in
+    record { within = c.loop-n.invariant.0; leads = omega (arith, m, c.loop-n.invariant.1) }

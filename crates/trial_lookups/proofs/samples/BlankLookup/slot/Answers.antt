@@ -1,5 +1,5 @@
-use Rattle·trial_lookups·proofs.NoSlot.{no-slot}
-use Rattle·trial_lookups·proofs.samples.BlankLookup.slot.Needs as need
+use Rattle.trial_lookups.proofs.NoSlot.{no_slot}
+use Rattle.trial_lookups.proofs.samples.BlankLookup.slot.Goals as goal
 
-pub returns : need.returns
-returns c = record { small = tt; is = no-slot (c .args .index) }
+pub returns : goal.returns
+returns c = record { small = tt; is = no_slot c.args.index }

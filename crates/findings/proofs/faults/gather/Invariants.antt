@@ -1,0 +1,5 @@
+use Rattle.findings.specs.Gathered.{Gathering}
+use Rattle.findings.proofs.faults.gather.Given as goal
+
+abbrev pub invariant-loop-i : goal.invariant-loop-i
+invariant-loop-i l = Gathering l.initial.words l.f.at l.start l.q l.n l.words l.m l.i

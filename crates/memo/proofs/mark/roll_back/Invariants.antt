@@ -1,0 +1,10 @@
+-- Invariant and measure of roll_back.
+use Rattle.std.proofs.Common.{◌≡◌, ℕ, get_or}
+use Rattle.memo.specs.Log.{Fits, Marked, entries_at}
+use Rattle.memo.proofs.mark.roll_back.Given as goal
+
+abbrev pub invariant-loop-words : goal.invariant-loop-words
+invariant-loop-words l = Fits l.words × Marked l.words l.mark × (entries_at l.words l.mark ≡ entries_at l.initial.words l.mark)
+
+abbrev pub decreases-loop-words : goal.decreases-loop-words
+decreases-loop-words l = get_or l.words 0 0
