@@ -24,4 +24,4 @@ returns c =
     let line = take c.args.len ws in
     let us = left line c.args.from in
     let e = seen_fits Close line c.args.from c.seen-next.result c.seen-next.ensures ∙ sym c.if-is.ensures in
-    record { front = c.read-list.ensures.front; reads = subst (λ g. ReadsSays line c.args.base c.args.n ws c.read-list.new.words g c.read-list.result) (sym (ap (λ b. pick b (it [] us) (listed Fields us)) e)) c.read-list.ensures.reads }
+    record { front = c.read_list.ensures.front; reads = subst (λ g. ReadsSays line c.args.base c.args.n ws c.read_list.new.words g c.read_list.result) (sym (ap (λ b. pick b (it [] us) (listed Fields us)) e)) c.read_list.ensures.reads }

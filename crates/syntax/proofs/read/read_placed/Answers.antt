@@ -7,7 +7,7 @@ use Rattle.syntax.proofs.read.read_placed.Goals as goal
 pub returns-in-Err : goal.returns-in-Err
 returns-in-Err c =
     let ws = c.args.words.now in
-    let vs = c.read-item.new.words in
+    let vs = c.read_item.new.words in
     let h = c.in-Err.ensures in
     let e = front_line c.args.len c.args.base ws vs c.requires.line h.front in
-    record { front = h.front; reads = h.reads ∙ subst (λ l. settled (left l 0) (bad (left l c.in-Err.wrong.at)) ≡ i_bad c.place-of.result.from c.place-of.result.to) e c.place-of.ensures }
+    record { front = h.front; reads = h.reads ∙ subst (λ l. settled (left l 0) (bad (left l c.in-Err.wrong.at)) ≡ i_bad c.place_of.result.from c.place_of.result.to) e c.place_of.ensures }

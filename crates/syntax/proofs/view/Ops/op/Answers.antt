@@ -6,5 +6,5 @@ pub returns : goal.returns
 returns c =
     let line = c.args.self.now.line.now in
     let code = c.args.self.now.code.now in
-    let e = c.op-at.ensures line in
+    let e = c.op_at.ensures line in
     ops_nth line code c.args.i c.requires ∙ ap Some (sym (simp zero-add at e))
