@@ -44,7 +44,7 @@ pub fn name<L: Lookup>(
     s: Span,
 ) -> Result<Place, Want>
     requires { Ready b p words.old }
-    ensures { TurnSays (book look.now) b p words.old words.new (λ line. o_name (span_of line s)) result }
+    ensures { TurnSays (L.Lookup.book look.now) b p words.old words.new (λ line. o_name (span_of line s)) result }
 {
     if let Some(x) = find(words, b, p, s) {
         return Ok(tell_value(
@@ -70,7 +70,7 @@ pub fn name<L: Lookup>(
 // The slots of what is called with n arguments.
 fn slots_of<L: Lookup>(look: &L, words: &[u32], b: Bounds, m: Meaning, n: u32) -> Slots
     requires { Within b words.now }
-    ensures { SlotsSay (book look.now (take b.base words.now)) m n result }
+    ensures { SlotsSay (L.Lookup.book look.now (take b.base words.now)) m n result }
 {
     let Meaning::Found(sig) = m else {
         return Slots {
@@ -129,7 +129,7 @@ pub fn call<L: Lookup>(
     n: u32,
 ) -> Result<Place, Want>
     requires { Ready b p words.old }
-    ensures { TurnSays (book look.now) b p words.old words.new (λ line. o_call (span_of line s) n) result }
+    ensures { TurnSays (L.Lookup.book look.now) b p words.old words.new (λ line. o_call (span_of line s) n) result }
 {
     if let Some(x) = find(words, b, p, s) {
         let v = Verdict {
@@ -161,7 +161,7 @@ pub fn call<L: Lookup>(
 // What a field of that name is, of something that has that meaning.
 fn member<L: Lookup>(look: &L, words: &[u32], b: Bounds, m: Meaning, x: Span) -> Verdict
     requires { Within b words.now }
-    ensures { verdict_said (book look.now (take b.base words.now)) (span_of (take b.len words.now) x) result ≡ member_said (span_of (take b.len words.now) x) (meaning_is (book look.now (take b.base words.now)) m) }
+    ensures { verdict_said (L.Lookup.book look.now (take b.base words.now)) (span_of (take b.len words.now) x) result ≡ member_said (span_of (take b.len words.now) x) (meaning_is (L.Lookup.book look.now (take b.base words.now)) m) }
 {
     let missing = Verdict {
         ty: NONE,
@@ -193,7 +193,7 @@ fn field_of<L: Lookup>(
     x: Span,
 ) -> Result<Verdict, Want>
     requires { Within b words.now }
-    ensures { FieldTurn (book look.now (take b.base words.now)) (take b.len words.now) ty (span_of (take b.len words.now) x) result }
+    ensures { FieldTurn (L.Lookup.book look.now (take b.base words.now)) (take b.len words.now) ty (span_of (take b.len words.now) x) result }
 {
     if ty == NONE {
         return Ok(Verdict {
@@ -224,7 +224,7 @@ pub fn field<L: Lookup>(
     x: Span,
 ) -> Result<Place, Want>
     requires { Ready b p words.old }
-    ensures { TurnSays (book look.now) b p words.old words.new (λ line. o_field (span_of line x)) result }
+    ensures { TurnSays (L.Lookup.book look.now) b p words.old words.new (λ line. o_field (span_of line x)) result }
 {
     let of = newest(words, b, p);
     match field_of(look, words, b, of.ty, x) {

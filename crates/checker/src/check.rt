@@ -30,7 +30,7 @@ pub enum Stop {
 
 fn turn<L: Lookup>(look: &L, words: &mut [u32], b: Bounds, p: Place, op: Op) -> Result<Place, Want>
     requires { Ready b p words.old }
-    ensures { TurnSays (book look.now) b p words.old words.new (λ line. op_is line op) result }
+    ensures { TurnSays (L.Lookup.book look.now) b p words.old words.new (λ line. op_is line op) result }
 {
     match op {
         Op::Number(s) => Ok(number(words, b, p, s)),
@@ -60,8 +60,8 @@ fn walk<L: Lookup>(look: &L, words: &mut [u32], b: Bounds) -> Went
     requires line { b.len ≤ b.base }
     requires room { b.base + 25 * b.count ≤ length words.old }
     ensures kept { take (code_end b) words.new ≡ take (code_end b) words.old }
-    ensures walks { WentSays (book look.now) b words.old words.new result }
-    ensures says { LineSays (book look.now) b words.old words.new (told_of result) }
+    ensures walks { WentSays (L.Lookup.book look.now) b words.old words.new result }
+    ensures says { LineSays (L.Lookup.book look.now) b words.old words.new (told_of result) }
 {
     let mut p = Place {
         height: 0,
@@ -93,7 +93,7 @@ fn has_room(words: usize, b: Bounds) -> bool
 // what lies before that, and the code, stay as they were. Or it gives back why it stopped.
 pub fn check<L: Lookup>(look: &L, words: &mut [u32], b: Bounds) -> Result<usize, Stop>
     ensures kept { take (code_end b) words.new ≡ take (code_end b) words.old }
-    ensures says { CheckSays (book look.now) b words.old words.new result }
+    ensures says { CheckSays (L.Lookup.book look.now) b words.old words.new result }
 {
     if !has_room(words.len(), b) {
         return Err(Stop::NoRoom);

@@ -48,7 +48,7 @@ pub fn use_file<L: Lookup>(
     s: Span,
 ) -> Result<Place, Want>
     requires { Ready b p words.old }
-    ensures { TurnSays (book look.now) b p words.old words.new (λ line. o_use (span_of line s)) result }
+    ensures { TurnSays (L.Lookup.book look.now) b p words.old words.new (λ line. o_use (span_of line s)) result }
 {
     let Some(is_there) = look.file(words, b, s) else {
         return Err(Want::File(s));
@@ -73,7 +73,7 @@ pub fn new_name<L: Lookup>(
     s: Span,
 ) -> Result<Place, Want>
     requires { Ready b p words.old }
-    ensures { TurnSays (book look.now) b p words.old words.new (λ line. o_new (span_of line s)) result }
+    ensures { TurnSays (L.Lookup.book look.now) b p words.old words.new (λ line. o_new (span_of line s)) result }
 {
     let Some(is_there) = look.before(words, b, s) else {
         return Err(Want::Before(s));
@@ -102,7 +102,7 @@ pub fn constant<L: Lookup>(
     s: Span,
 ) -> Result<Place, Want>
     requires { Ready b p words.old }
-    ensures { TurnSays (book look.now) b p words.old words.new (λ line. o_const (span_of line s)) result }
+    ensures { TurnSays (L.Lookup.book look.now) b p words.old words.new (λ line. o_const (span_of line s)) result }
 {
     let Some(is_there) = look.before(words, b, s) else {
         return Err(Want::Before(s));
@@ -116,7 +116,7 @@ pub fn constant<L: Lookup>(
 // What a word is where a type has to be.
 fn type_of<L: Lookup>(look: &L, words: &[u32], b: Bounds, s: Span) -> Result<Verdict, Want>
     requires { Within b words.now }
-    ensures { TypeTurn (book look.now (take b.base words.now)) (take b.len words.now) (span_of (take b.len words.now) s) result }
+    ensures { TypeTurn (L.Lookup.book look.now (take b.base words.now)) (take b.len words.now) (span_of (take b.len words.now) s) result }
 {
     let word = word_of(words, b, s);
     if same_word(word, &[110, 117, 109]) {
@@ -149,7 +149,7 @@ pub fn slot<L: Lookup>(
     ty: Span,
 ) -> Result<Place, Want>
     requires { Ready b p words.old }
-    ensures { TurnSays (book look.now) b p words.old words.new (λ line. o_slot (record { name = span_of line x; ty = span_of line ty })) result }
+    ensures { TurnSays (L.Lookup.book look.now) b p words.old words.new (λ line. o_slot (record { name = span_of line x; ty = span_of line ty })) result }
 {
     match type_of(look, words, b, ty) {
         Ok(v) => {
@@ -172,7 +172,7 @@ pub fn result<L: Lookup>(
     s: Span,
 ) -> Result<Place, Want>
     requires { Ready b p words.old }
-    ensures { TurnSays (book look.now) b p words.old words.new (λ line. o_result (span_of line s)) result }
+    ensures { TurnSays (L.Lookup.book look.now) b p words.old words.new (λ line. o_result (span_of line s)) result }
 {
     match type_of(look, words, b, s) {
         Ok(v) => {

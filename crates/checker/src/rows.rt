@@ -1,6 +1,6 @@
 // Frames, bound names and what was said, in words. No write can fail for want of room: its caller has seen to that.
 ghost use Rattle.std.specs.Prelude.{◌≡◌, ℕ, ◌+◌, ◌-◌, ◌*◌, ◌<◌, ◌≤◌, List, ◌∷◌, length, take};
-ghost use Rattle.semantics.specs.Walk.{top as newest-of};
+ghost use Rattle.semantics.specs.Walk.{top as newest_top};
 ghost use Rattle.parser.specs.Rows.{span_of};
 ghost use Rattle.checker.specs.Rows.{Book, frame_is, bound_is, event_is, means, names_in, names_at, with_frame, with_name, with_said, without_frame, without_name, Fits, pasted, Writes, FindSays};
 
@@ -77,7 +77,7 @@ pub fn push(words: &mut [u32], b: Bounds, p: Place, v: Frame) -> Place
 // The newest frame, or a blank one where there is none; and the place without it.
 pub fn newest(words: &[u32], b: Bounds, p: Place) -> Frame
     requires { Fits b p words.now }
-    ensures { (k : Book) (line : List ℕ) → frame_is k result ≡ «newest-of» (means k line b p words.now).stack }
+    ensures { (k : Book) (line : List ℕ) → frame_is k result ≡ newest_top (means k line b p words.now).stack }
 {
     if p.height == 0 {
         return Frame {

@@ -98,7 +98,7 @@ pub fn misread(words: &mut [u32], b: Bounds, p: Place, s: Span) -> Place
 
 pub fn condition<L: Lookup>(look: &L, words: &mut [u32], b: Bounds, p: Place) -> Place
     requires { Ready b p words.old }
-    ensures { Goes (book look.now) b p words.old result words.new (λ line. o_cond) }
+    ensures { Goes (L.Lookup.book look.now) b p words.old result words.new (λ line. o_cond) }
 {
     let v = newest(words, b, p);
     let wrong = clash(look, words, b, BOOL, v.ty);
@@ -119,7 +119,7 @@ fn operands<L: Lookup>(
     requires less { p.events + 1 < 3 * b.count }
     ensures few { (result.height ≡ p.height) × ((result.names ≡ p.names) × (result.events ≤ p.events + 2)) }
     ensures before { take (code_end b) words.new ≡ take (code_end b) words.old }
-    ensures becomes { (line : List ℕ) → means (book look.now (take b.base words.old)) line b result words.new ≡ with_said (tells (of_slot (typ (book look.now (take b.base words.old)) wanted) x.span.from x.span.to (typ (book look.now (take b.base words.old)) x.ty) ++ of_slot (typ (book look.now (take b.base words.old)) wanted) y.span.from y.span.to (typ (book look.now (take b.base words.old)) y.ty))) (means (book look.now (take b.base words.old)) line b p words.old) }
+    ensures becomes { (line : List ℕ) → means (L.Lookup.book look.now (take b.base words.old)) line b result words.new ≡ with_said (tells (of_slot (typ (L.Lookup.book look.now (take b.base words.old)) wanted) x.span.from x.span.to (typ (L.Lookup.book look.now (take b.base words.old)) x.ty) ++ of_slot (typ (L.Lookup.book look.now (take b.base words.old)) wanted) y.span.from y.span.to (typ (L.Lookup.book look.now (take b.base words.old)) y.ty))) (means (L.Lookup.book look.now (take b.base words.old)) line b p words.old) }
 {
     let first = clash(look, words, b, wanted, x.ty);
     let second = clash(look, words, b, wanted, y.ty);
@@ -149,7 +149,7 @@ fn result_type(o: Operator) -> u32
 
 pub fn operation<L: Lookup>(look: &L, words: &mut [u32], b: Bounds, p: Place, o: Operator) -> Place
     requires { Ready b p words.old }
-    ensures { Goes (book look.now) b p words.old result words.new (λ line. o_op (operator o)) }
+    ensures { Goes (L.Lookup.book look.now) b p words.old result words.new (λ line. o_op (operator o)) }
 {
     let right = newest(words, b, p);
     let under = below(p);
@@ -175,7 +175,7 @@ pub fn operation<L: Lookup>(look: &L, words: &mut [u32], b: Bounds, p: Place, o:
 // An if that began there ends.
 pub fn choice<L: Lookup>(look: &L, words: &mut [u32], b: Bounds, p: Place, from: u32) -> Place
     requires { Ready b p words.old }
-    ensures { Goes (book look.now) b p words.old result words.new (λ line. o_if from) }
+    ensures { Goes (L.Lookup.book look.now) b p words.old result words.new (λ line. o_if from) }
 {
     let second = newest(words, b, p);
     let under = below(p);
@@ -198,7 +198,7 @@ pub fn choice<L: Lookup>(look: &L, words: &mut [u32], b: Bounds, p: Place, from:
 
 pub fn argument<L: Lookup>(look: &L, words: &mut [u32], b: Bounds, p: Place) -> Place
     requires { Ready b p words.old }
-    ensures { Goes (book look.now) b p words.old result words.new (λ line. o_arg) }
+    ensures { Goes (L.Lookup.book look.now) b p words.old result words.new (λ line. o_arg) }
 {
     let v = newest(words, b, p);
     let under = below(p);
@@ -224,7 +224,7 @@ pub fn argument<L: Lookup>(look: &L, words: &mut [u32], b: Bounds, p: Place) -> 
 // The end of a def's body, held against its result.
 pub fn body<L: Lookup>(look: &L, words: &mut [u32], b: Bounds, p: Place) -> Place
     requires { Ready b p words.old }
-    ensures { Goes (book look.now) b p words.old result words.new (λ line. o_body) }
+    ensures { Goes (L.Lookup.book look.now) b p words.old result words.new (λ line. o_body) }
 {
     let v = newest(words, b, p);
     let under = below(p);

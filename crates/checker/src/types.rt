@@ -14,7 +14,7 @@ const ANOTHER: u32 = 5;
 // What is wrong with something of one type where another is wanted: nothing where one of them isn't known.
 pub fn clash<L: Lookup>(look: &L, words: &[u32], b: Bounds, wanted: u32, is: u32) -> u32
     requires { Within b words.now }
-    ensures { (m n : ℕ) → of_slot (typ (book look.now (take b.base words.now)) wanted) m n (typ (book look.now (take b.base words.now)) «is») ≡ blamed result m n }
+    ensures { (m n : ℕ) → of_slot (typ (L.Lookup.book look.now (take b.base words.now)) wanted) m n (typ (L.Lookup.book look.now (take b.base words.now)) «is») ≡ blamed result m n }
 {
     if wanted == NONE || is == NONE {
         return 0;
@@ -39,7 +39,7 @@ pub fn either(x: u32, y: u32) -> u32
 // What the next slot of a call wants, and which is next behind it.
 pub fn wanted_by<L: Lookup>(look: &L, words: &[u32], b: Bounds, v: Frame) -> u32
     requires { Within b words.now }
-    ensures { typ (book look.now (take b.base words.now)) result ≡ first_slot (slots_left (book look.now (take b.base words.now)) v.sig v.next) }
+    ensures { typ (L.Lookup.book look.now (take b.base words.now)) result ≡ first_slot (slots_left (L.Lookup.book look.now (take b.base words.now)) v.sig v.next) }
 {
     if v.next == 0 {
         return NONE;
@@ -49,7 +49,7 @@ pub fn wanted_by<L: Lookup>(look: &L, words: &[u32], b: Bounds, v: Frame) -> u32
 
 pub fn next_of<L: Lookup>(look: &L, words: &[u32], b: Bounds, v: Frame) -> u32
     requires { Within b words.now }
-    ensures { slots_left (book look.now (take b.base words.now)) v.sig result ≡ others (slots_left (book look.now (take b.base words.now)) v.sig v.next) }
+    ensures { slots_left (L.Lookup.book look.now (take b.base words.now)) v.sig result ≡ others (slots_left (L.Lookup.book look.now (take b.base words.now)) v.sig v.next) }
 {
     if v.next == 0 {
         return 0;

@@ -35,7 +35,7 @@ pub fn role_fits(role: Role, sort: Sort) -> bool
 
 fn judge_found<L: Lookup>(look: &L, words: &[u32], b: Bounds, sig: SigId, role: Role) -> Verdict
     requires { Within b words.now }
-    ensures { (t : Tok) → verdict_said (book look.now (take b.base words.now)) t result ≡ role_said role t (sig_is ((book look.now (take b.base words.now)).sigs sig.0)) }
+    ensures { (t : Tok) → verdict_said (L.Lookup.book look.now (take b.base words.now)) t result ≡ role_said role t (sig_is ((L.Lookup.book look.now (take b.base words.now)).sigs sig.0)) }
 {
     let link = Link::Declared(sig);
     let ty = look.result(words, b, sig);
@@ -52,7 +52,7 @@ fn judge_found<L: Lookup>(look: &L, words: &[u32], b: Bounds, sig: SigId, role: 
 
 pub fn judge<L: Lookup>(look: &L, words: &[u32], b: Bounds, m: Meaning, role: Role) -> Verdict
     requires { Within b words.now }
-    ensures { (t : Tok) → verdict_said (book look.now (take b.base words.now)) t result ≡ role_said role t (meaning_is (book look.now (take b.base words.now)) m) }
+    ensures { (t : Tok) → verdict_said (L.Lookup.book look.now (take b.base words.now)) t result ≡ role_said role t (meaning_is (L.Lookup.book look.now (take b.base words.now)) m) }
 {
     match m {
         Meaning::Found(sig) => judge_found(look, words, b, sig, role),

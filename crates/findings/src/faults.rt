@@ -1,6 +1,6 @@
 // The faults of lines, gathered in the order of the lines for an answer.
 ghost use Rattle.std.specs.Prelude.{◌≡◌, ◌+◌, ◌*◌, ◌≤◌, ◌++◌, length, take};
-ghost use Rattle.semantics.specs.Answers.{«fault-words»};
+ghost use Rattle.semantics.specs.Answers.{fault_words};
 ghost use Rattle.findings.specs.Said.{fault_in, faults_read, FaultSays};
 ghost use Rattle.findings.specs.Gathered.{gathered, four};
 
@@ -48,7 +48,7 @@ pub fn gather(words: &mut [u32], f: Findings, start: u32, q: usize, n: usize) ->
     requires apart { q + 4 * (n + f.count) ≤ f.«at» }
     requires within { f.«at» + 4 * f.count ≤ length words.old }
     ensures front { take q words.new ≡ take q words.old }
-    ensures adds { gathered words.new q result ≡ gathered words.old q n ++ «fault-words» start (faults_read words.old f.«at» f.count) }
+    ensures adds { gathered words.new q result ≡ gathered words.old q n ++ fault_words start (faults_read words.old f.«at» f.count) }
     ensures few { result ≤ n + f.count }
 {
     let mut m = n;

@@ -38,7 +38,7 @@ returns g c =
     let σ = means K line b c.args.p ws in
     let t = span_of line c.args.s in
     let S = meaning_is K c.in-Some-here.m in
-    let e = c.in-default.ensures K in (
+    let e = c.in_default.ensures K in (
       k_sig S,
       asks_free K.knows σ.bound t.w e ∙ c.in-Some-here.ensures,
       record {
@@ -47,7 +47,7 @@ returns g c =
         name_more = omega (arith, c.begin-2.ensures.few);
         said_more = omega (arith, c.begin-2.ensures.few);
         becomes = c.begin-2.ensures.writes.becomes K line
-            ∙ begun_is K t c.judge-v.result c.slots-of-c.result σ c.args.n (callee t S) (c.judge-v.ensures t) (c.slots-of-c.ensures.come t) (c.slots-of-c.ensures.counted t)
+            ∙ begun_is K t c.judge-v.result c.slots_of-c.result σ c.args.n (callee t S) (c.judge-v.ensures t) (c.slots_of-c.ensures.come t) (c.slots_of-c.ensures.counted t)
             ∙ ap (λ f. begins t c.args.n (opt f (callee t S) (λ x. calls_it none (said none (fault t.from t.to 8 ∷ []) [] (link_local t x ∷ [])))) σ.stack σ.bound σ.out) (sym e);
       },
     )

@@ -20,11 +20,11 @@ returns-in-Ok g c =
       h.0,
       sym (ap (λ f. fetch K.knows (asks_type f.ty)) e) ∙ h.1,
       record {
-        before = c.tell-value.ensures.writes.before;
-        frame_more = omega (arith, c.tell-value.ensures.few, c.below.ensures.lower);
-        name_more = omega (arith, c.tell-value.ensures.few, c.below.ensures.lower);
-        said_more = omega (arith, c.tell-value.ensures.few, c.below.ensures.lower);
-        becomes = c.tell-value.ensures.writes.becomes K line
+        before = c.tell_value.ensures.writes.before;
+        frame_more = omega (arith, c.tell_value.ensures.few, c.below.ensures.lower);
+        name_more = omega (arith, c.tell_value.ensures.few, c.below.ensures.lower);
+        said_more = omega (arith, c.tell_value.ensures.few, c.below.ensures.lower);
+        becomes = c.tell_value.ensures.writes.becomes K line
             ∙ (λ i. says a t.to (typed a t.to (h.2 i)) (u i).stack (u i).bound (u i).out)
             ∙ (λ i. says (e i).from t.to (typed (e i).from t.to (of_record (λ f n. the_sig h.0) t (e i).ty)) (pop σ.stack) σ.bound σ.out);
       },

@@ -22,11 +22,11 @@ returns-then-ty-lt-FIRST g c =
     let line = take c.args.b.len ws in
     field_plain K line (span_of line c.args.x) c.args.ty c.if-ty-eq-NONE.false c.if-ty-lt-FIRST.true
 
-pub returns-in-default : goal.returns-in-default
-returns-in-default g c =
+pub returns-in_default : goal.returns-in_default
+returns-in_default g c =
     let ws = c.args.words.now in
     let K = g.L.Lookup.book c.args.look.now (take c.args.b.base ws) in
-    ap (λ o. fetch K.knows (asks_type o)) (typ_of K c.args.ty (omega arith)) ∙ c.in-default.ensures
+    ap (λ o. fetch K.knows (asks_type o)) (typ_of K c.args.ty (omega arith)) ∙ c.in_default.ensures
 
 pub returns : goal.returns
 returns g c =

@@ -20,11 +20,11 @@ returns-in-Some g c =
       k_yes false,
       asks_bound K.knows σ.bound t.w _ e,
       record {
-        before = c.tell-value.ensures.writes.before;
-        frame_more = omega (arith, c.tell-value.ensures.few);
-        name_more = omega (arith, c.tell-value.ensures.few);
-        said_more = omega (arith, c.tell-value.ensures.few);
-        becomes = c.tell-value.ensures.writes.becomes K line ∙ ap (λ f. says t.from t.to (typed t.from t.to (opt f (name_alone t s_unknown) (λ x. said x.ty [] [] (link_local t x ∷ [])))) σ.stack σ.bound σ.out) (sym e);
+        before = c.tell_value.ensures.writes.before;
+        frame_more = omega (arith, c.tell_value.ensures.few);
+        name_more = omega (arith, c.tell_value.ensures.few);
+        said_more = omega (arith, c.tell_value.ensures.few);
+        becomes = c.tell_value.ensures.writes.becomes K line ∙ ap (λ f. says t.from t.to (typed t.from t.to (opt f (name_alone t s_unknown) (λ x. said x.ty [] [] (link_local t x ∷ [])))) σ.stack σ.bound σ.out) (sym e);
       },
     )
 
@@ -37,15 +37,15 @@ returns g c =
     let σ = means K line b c.args.p ws in
     let t = span_of line c.args.s in
     let S = meaning_is K c.in-Some-here.m in
-    let e = c.in-default.ensures K in (
+    let e = c.in_default.ensures K in (
       k_sig S,
       asks_free K.knows σ.bound t.w e ∙ c.in-Some-here.ensures,
       record {
-        before = c.tell-value-2.ensures.writes.before;
-        frame_more = omega (arith, c.tell-value-2.ensures.few);
-        name_more = omega (arith, c.tell-value-2.ensures.few);
-        said_more = omega (arith, c.tell-value-2.ensures.few);
-        becomes = c.tell-value-2.ensures.writes.becomes K line
+        before = c.tell_value-2.ensures.writes.before;
+        frame_more = omega (arith, c.tell_value-2.ensures.few);
+        name_more = omega (arith, c.tell_value-2.ensures.few);
+        said_more = omega (arith, c.tell_value-2.ensures.few);
+        becomes = c.tell_value-2.ensures.writes.becomes K line
             ∙ ap (λ s. says t.from t.to (typed t.from t.to s) σ.stack σ.bound σ.out) (c.judge-v.ensures t)
             ∙ ap (λ f. says t.from t.to (typed t.from t.to (opt f (name_alone t S) (λ x. said x.ty [] [] (link_local t x ∷ [])))) σ.stack σ.bound σ.out) (sym e);
       },

@@ -25,7 +25,7 @@ pub returns-in-Bind : goal.returns-in-Bind
 returns-in-Bind g c = asks_none (g.L.Lookup.book c.args.look.now) c.args.b c.args.p c.bound.result c.args.words.now c.bound.new.words (Bind c.in-Bind.s) c.args.op c.in-Bind.is (λ l σ. refl) (c.bound.ensures (g.L.Lookup.book c.args.look.now))
 
 pub returns-in-Let : goal.returns-in-Let
-returns-in-Let g c = asks_none (g.L.Lookup.book c.args.look.now) c.args.b c.args.p c.end-let.result c.args.words.now c.end-let.new.words (Let c.in-Let.from) c.args.op c.in-Let.is (λ l σ. refl) (c.end-let.ensures (g.L.Lookup.book c.args.look.now))
+returns-in-Let g c = asks_none (g.L.Lookup.book c.args.look.now) c.args.b c.args.p c.end_let.result c.args.words.now c.end_let.new.words (Let c.in-Let.from) c.args.op c.in-Let.is (λ l σ. refl) (c.end_let.ensures (g.L.Lookup.book c.args.look.now))
 
 pub returns-in-Par : goal.returns-in-Par
 returns-in-Par g c = asks_none (g.L.Lookup.book c.args.look.now) c.args.b c.args.p c.brackets.result c.args.words.now c.brackets.new.words (Par c.in-Par.s) c.args.op c.in-Par.is (λ l σ. refl) (c.brackets.ensures (g.L.Lookup.book c.args.look.now))

@@ -6,14 +6,14 @@ use Rattle.checker.specs.Rows.{names_in, names_at, bound_is}
 use Rattle.checker.proofs.Words.{find_hit, find_miss}
 use Rattle.checker.proofs.rows.find.Goals as goal
 
-pub returns-then-same-word : goal.returns-then-same-word
-returns-then-same-word c = λ k.
+pub returns-then-same_word : goal.returns-then-same_word
+returns-then-same_word c = λ k.
     let ws = c.args.words.now in
     let line = take c.args.b.len ws in
     let w = (span_of line c.args.name).w in
-    let x = bound_is k line c.newest-name-x.result in
-    let e : same x.name.w w ≡ c.same-word.result = sym (c.same-word.ensures ∙ (λ i. same (c.word-of.ensures i) (c.word-of-in-loop-n.ensures i))) in
-    c.loop-n.invariant.1 k ∙ find_hit x _ (names_in k line (names_at c.args.b) (c.loop-n.n - 1) ws) w (c.newest-name-x.ensures k line) (e ∙ c.if-same-word.true)
+    let x = bound_is k line c.newest_name-x.result in
+    let e : same x.name.w w ≡ c.same_word.result = sym (c.same_word.ensures ∙ (λ i. same (c.word_of.ensures i) (c.word_of-in-loop-n.ensures i))) in
+    c.loop-n.invariant.1 k ∙ find_hit x _ (names_in k line (names_at c.args.b) (c.loop-n.n - 1) ws) w (c.newest_name-x.ensures k line) (e ∙ c.if-same_word.true)
 
 pub loop-n-preserved : goal.loop-n-preserved
 loop-n-preserved c = (
@@ -22,9 +22,9 @@ loop-n-preserved c = (
       let ws = c.args.words.now in
       let line = take c.args.b.len ws in
       let w = (span_of line c.args.name).w in
-      let x = bound_is k line c.newest-name-x.result in
-      let e : same x.name.w w ≡ c.same-word.result = sym (c.same-word.ensures ∙ (λ i. same (c.word-of.ensures i) (c.word-of-in-loop-n.ensures i))) in
-      c.loop-n.invariant.1 k ∙ find_miss x _ (names_in k line (names_at c.args.b) (c.loop-n.n - 1) ws) w (c.newest-name-x.ensures k line) (e ∙ c.if-same-word.false),
+      let x = bound_is k line c.newest_name-x.result in
+      let e : same x.name.w w ≡ c.same_word.result = sym (c.same_word.ensures ∙ (λ i. same (c.word_of.ensures i) (c.word_of-in-loop-n.ensures i))) in
+      c.loop-n.invariant.1 k ∙ find_miss x _ (names_in k line (names_at c.args.b) (c.loop-n.n - 1) ws) w (c.newest_name-x.ensures k line) (e ∙ c.if-same_word.false),
 )
 
 pub returns : goal.returns

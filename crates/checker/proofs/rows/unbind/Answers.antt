@@ -5,4 +5,4 @@ use Rattle.checker.proofs.Words.{unbound_is}
 use Rattle.checker.proofs.rows.unbind.Goals as goal
 
 pub returns : goal.returns
-returns c = record { lower = (refl, (omega arith, refl)); under = λ k line b ws. ap (λ ns. state (frames_in k (frames_at b) c.args.p.height ws) ns (said_in k line (code_end b) c.args.p.events ws)) (ap (λ h. names_in k line (names_at b) h ws) c.saturating-sub.ensures ∙ unbound_is k line (names_at b) c.args.p.names ws) }
+returns c = record { lower = (refl, (omega arith, refl)); under = λ k line b ws. ap (λ ns. state (frames_in k (frames_at b) c.args.p.height ws) ns (said_in k line (code_end b) c.args.p.events ws)) (ap (λ h. names_in k line (names_at b) h ws) c.saturating_sub.ensures ∙ unbound_is k line (names_at b) c.args.p.names ws) }

@@ -18,15 +18,15 @@ returns g c = λ z.
     let V = c.newest-v.result in
     let C = c.newest-call.result in
     let w = sym (c.clash-wrong.ensures V.span.from V.span.to) in
-    let s = c.wanted-by-wanted.ensures in
-    let n = c.next-of-next.ensures in
+    let s = c.wanted_by-wanted.ensures in
+    let n = c.next_of-next.ensures in
     record {
       before = c.push.ensures.writes.before ∙ c.blame-q.ensures.writes.before;
       frame_more = omega (arith, c.push.ensures.higher, c.blame-q.ensures.few, c.below-rest.ensures.lower, c.below-under.ensures.lower);
       name_more = omega (arith, c.push.ensures.higher, c.blame-q.ensures.few, c.below-rest.ensures.lower, c.below-under.ensures.lower);
       said_more = omega (arith, c.push.ensures.higher, c.blame-q.ensures.few, c.below-rest.ensures.lower, c.below-under.ensures.lower);
       becomes = c.push.ensures.writes.becomes K line
-          ∙ ap (with_frame (frame_is K (frame_words C.ty C.span.from C.span.to C.sig c.next-of-next.result))) (c.blame-q.ensures.writes.becomes K line)
+          ∙ ap (with_frame (frame_is K (frame_words C.ty C.span.from C.span.to C.sig c.next_of-next.result))) (c.blame-q.ensures.writes.becomes K line)
           ∙ (λ i. with_frame (record { ty = typ K C.ty; from = C.span.from; to = C.span.to; slots = n i }) (with_said (tells (w i)) (r i)))
           ∙ (λ i. with_frame (record { ty = typ K C.ty; from = C.span.from; to = C.span.to; slots = n 1 }) (with_said (tells (of_slot (s i) V.span.from V.span.to (typ K V.ty))) (without_frame (without_frame σ))))
           ∙ (λ i. with_frame (record { ty = (k i).ty; from = (k i).from; to = (k i).to; slots = pop (k i).slots }) (with_said (tells (of_slot (first_slot (k i).slots) (v i).from (v i).to (v i).ty)) (without_frame (without_frame σ))));

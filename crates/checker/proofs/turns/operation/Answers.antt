@@ -38,8 +38,8 @@ returns-in-Equal g c = λ z.
           ∙ (λ i. says (x i).from (y i).to (typed (x i).from (y i).to (said (some t_bool) (opt (x i).ty [] (λ v. wants v (y i).from (y i).to (y i).ty)) [] [])) (pop (pop σ.stack)) σ.bound σ.out);
     })
 
-pub returns-in-default : goal.returns-in-default
-returns-in-default g c = λ z.
+pub returns-in_default : goal.returns-in_default
+returns-in_default g c = λ z.
     let ws = c.args.words.now in
     let b = c.args.b in
     let K = g.L.Lookup.book c.args.look.now (take b.base ws) in
@@ -52,18 +52,18 @@ returns-in-default g c = λ z.
     let Y = c.newest-right.result in
     let X = c.newest-left.result in
     let o = c.args.o in
-    let t = c.result-type.ensures K in
-    let wd = c.operand-type.ensures in
+    let t = c.result_type.ensures K in
+    let wd = c.operand_type.ensures in
     let fs : ℕ → List Fault = λ w. of_slot (typ K w) X.span.from X.span.to (typ K X.ty) ++ of_slot (typ K w) Y.span.from Y.span.to (typ K Y.ty) in
     record {
-      before = c.value-in-default.ensures.writes.before ∙ c.operands-q.ensures.before;
-      frame_more = omega (arith, c.value-in-default.ensures.few, c.operands-q.ensures.few, c.below-rest.ensures.lower, c.below-under.ensures.lower);
-      name_more = omega (arith, c.value-in-default.ensures.few, c.operands-q.ensures.few, c.below-rest.ensures.lower, c.below-under.ensures.lower);
-      said_more = omega (arith, c.value-in-default.ensures.few, c.operands-q.ensures.few, c.below-rest.ensures.lower, c.below-under.ensures.lower);
-      becomes = c.value-in-default.ensures.writes.becomes K line
-          ∙ ap (valued X.span.from Y.span.to (typ K c.result-type.result)) (c.operands-q.ensures.becomes line)
+      before = c.value-in_default.ensures.writes.before ∙ c.operands-q.ensures.before;
+      frame_more = omega (arith, c.value-in_default.ensures.few, c.operands-q.ensures.few, c.below-rest.ensures.lower, c.below-under.ensures.lower);
+      name_more = omega (arith, c.value-in_default.ensures.few, c.operands-q.ensures.few, c.below-rest.ensures.lower, c.below-under.ensures.lower);
+      said_more = omega (arith, c.value-in_default.ensures.few, c.operands-q.ensures.few, c.below-rest.ensures.lower, c.below-under.ensures.lower);
+      becomes = c.value-in_default.ensures.writes.becomes K line
+          ∙ ap (valued X.span.from Y.span.to (typ K c.result_type.result)) (c.operands-q.ensures.becomes line)
           ∙ (λ i. valued X.span.from Y.span.to (t i) (with_said (tells (fs (wd i))) (r i)))
           ∙ said_valued X.span.from Y.span.to (some (op_type (operator o))) none (fs (operand_word (operator o))) [] (without_frame (without_frame σ))
           ∙ (λ i. says (x i).from (y i).to (typed (x i).from (y i).to (said (some (op_type (operator o))) (of_slot (typ K (operand_word (operator o))) (x i).from (x i).to (x i).ty ++ of_slot (typ K (operand_word (operator o))) (y i).from (y i).to (y i).ty) [] [])) (pop (pop σ.stack)) σ.bound σ.out)
-          ∙ ap (λ l. says (top (pop σ.stack)).from (top σ.stack).to (typed (top (pop σ.stack)).from (top σ.stack).to (said (some (op_type (operator o))) l [] [])) (pop (pop σ.stack)) σ.bound σ.out) (operands_are K o (top (pop σ.stack)) (top σ.stack) c.in-default.not-Equal);
+          ∙ ap (λ l. says (top (pop σ.stack)).from (top σ.stack).to (typed (top (pop σ.stack)).from (top σ.stack).to (said (some (op_type (operator o))) l [] [])) (pop (pop σ.stack)) σ.bound σ.out) (operands_are K o (top (pop σ.stack)) (top σ.stack) c.in_default.not-Equal);
     }
