@@ -8,8 +8,8 @@ returns-in-Some c =
     let line = c.args.line.now in
     let p = c.in-Some.p in
     let n = c.in-Some.ensures.reads in
-    let e = c.token-of.ensures ∙ ap token_of c.in-Some.ensures.text in
+    let e = c.token_of.ensures ∙ ap token_of c.in-Some.ensures.text in
     record {
       token = e ∙ token_there line c.args.at p.from p.to n;
-      place = stands_there line c.args.at p.from p.to c.token-of.result n e;
+      place = stands_there line c.args.at p.from p.to c.token_of.result n e;
     }

@@ -47,8 +47,8 @@ returns-in-Name c =
     let s-left = left line c.look-s.result.span.to in
     onto b p _ ws _ _ _ _ s.onward (atom_name us s-left s-is fs co s.cuts s.word) c.named.ensures
 
-pub returns-in-default : goal.returns-in-default
-returns-in-default c =
+pub returns-in_default : goal.returns-in_default
+returns-in_default c =
     let b = c.args.b in
     let p = c.args.p in
     let ws = c.args.words.now in
@@ -56,4 +56,4 @@ returns-in-default c =
     let us = left line p.at in
     let fs = frames_of line p.depth ws in
     let co = ops_of line b.base p.count ws in
-    stops b p ws _ p.at (atom_lost us fs co c.look-s.result.token c.look-s.ensures.token_is c.in-default.not-Open c.in-default.not-Number c.in-default.not-Name) (omega arith) c.requires.at_in
+    stops b p ws _ p.at (atom_lost us fs co c.look-s.result.token c.look-s.ensures.token_is c.in_default.not-Open c.in_default.not-Number c.in_default.not-Name) (omega arith) c.requires.at_in

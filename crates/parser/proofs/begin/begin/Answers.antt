@@ -18,7 +18,7 @@ returns-in-Let c =
     let s = saw b.len ws p.at c.look-s.result Let c.look-s.ensures c.in-Let.is refl in
     let s-is = span_of line c.look-s.result.span in
     let s-left = left line c.look-s.result.span.to in
-    onto b p _ ws _ _ _ _ s.onward (begin_let us s-left s-is fs co s.cuts s.word) c.name-bound.ensures
+    onto b p _ ws _ _ _ _ s.onward (begin_let us s-left s-is fs co s.cuts s.word) c.name_bound.ensures
 
 pub returns-in-If : goal.returns-in-If
 returns-in-If c =
@@ -34,8 +34,8 @@ returns-in-If c =
     let s-left = left line c.look-s.result.span.to in
     onto b p _ ws _ _ _ _ s.onward (begin_if us s-left s-is fs co s.cuts s.word) c.wait.ensures
 
-pub returns-in-default : goal.returns-in-default
-returns-in-default c =
+pub returns-in_default : goal.returns-in_default
+returns-in_default c =
     let b = c.args.b in
     let p = c.args.p in
     let ws = c.args.words.now in
@@ -43,4 +43,4 @@ returns-in-default c =
     let us = left line p.at in
     let fs = frames_of line p.depth ws in
     let co = ops_of line b.base p.count ws in
-    moves 24 b p ws _ PhaseAtom (begin_other us fs co c.look-s.result.token c.look-s.ensures.token_is c.in-default.not-Let c.in-default.not-If) c.requires
+    moves 24 b p ws _ PhaseAtom (begin_other us fs co c.look-s.result.token c.look-s.ensures.token_is c.in_default.not-Let c.in_default.not-If) c.requires

@@ -27,8 +27,8 @@ returns-in-Close c =
     let ad = c.emit.ensures.adds line in
     onto_later b p _ ws w1 _ _ _ _ s.onward c.requires.line_in kept (call_closed (span_of line c.args.f) us s-left s-is fs co s.cuts s.word ∙ (λ j. going (p_value 7) s-left (sym fr j) (sym ad j ++ (o_end s-is.to ∷ [])))) c.put.ensures
 
-pub returns-in-default : goal.returns-in-default
-returns-in-default c =
+pub returns-in_default : goal.returns-in_default
+returns-in_default c =
     let b = c.args.b in
     let p = c.args.p in
     let ws = c.args.words.now in
@@ -37,4 +37,4 @@ returns-in-default c =
     let fs = frames_of line p.depth ws in
     let co = ops_of line b.base p.count ws in
     let r = c.requires.room in
-    onto b p _ ws _ _ _ _ (omega arith) (call_open (span_of line c.args.f) us fs co p.count c.look-s.result.token c.look-s.ensures.token_is c.in-default.not-Close (ops_long line b.base p.count ws (omega arith))) c.put-wait.ensures
+    onto b p _ ws _ _ _ _ (omega arith) (call_open (span_of line c.args.f) us fs co p.count c.look-s.result.token c.look-s.ensures.token_is c.in_default.not-Close (ops_long line b.base p.count ws (omega arith))) c.put_wait.ensures

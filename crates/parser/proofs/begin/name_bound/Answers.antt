@@ -5,8 +5,8 @@ use Rattle.parser.specs.Rows.{ops_of, frames_of, span_of, line_of}
 use Rattle.parser.proofs.Ways.{saw, onto, stops, let_no_name, let_no_gets, let_goes}
 use Rattle.parser.proofs.begin.name_bound.Goals as goal
 
-pub returns-in-default : goal.returns-in-default
-returns-in-default c =
+pub returns-in_default : goal.returns-in_default
+returns-in_default c =
     let b = c.args.b in
     let p = c.args.p in
     let ws = c.args.words.now in
@@ -14,10 +14,10 @@ returns-in-default c =
     let us = left line p.at in
     let fs = frames_of line p.depth ws in
     let co = ops_of line b.base p.count ws in
-    stops b p ws _ p.at (let_no_name c.args.n us fs co c.look-x.result.token c.look-x.ensures.token_is c.in-default.not-Name) (omega arith) c.requires.at_in
+    stops b p ws _ p.at (let_no_name c.args.n us fs co c.look-x.result.token c.look-x.ensures.token_is c.in_default.not-Name) (omega arith) c.requires.at_in
 
-pub returns-in-default-token : goal.returns-in-default-token
-returns-in-default-token c =
+pub returns-in_default-token : goal.returns-in_default-token
+returns-in_default-token c =
     let b = c.args.b in
     let p = c.args.p in
     let ws = c.args.words.now in
@@ -28,7 +28,7 @@ returns-in-default-token c =
     let x = saw b.len ws p.at c.look-x.result Name c.look-x.ensures c.in-Name.is refl in
     let x-is = span_of line c.look-x.result.span in
     let x-left = left line c.look-x.result.span.to in
-    stops b p ws _ c.look-x.result.span.to (let_no_gets c.args.n us x-left x-is fs co c.look-g.result.token x.cuts x.word c.look-g.ensures.token_is c.in-default-token.not-Gets) x.onward x.within
+    stops b p ws _ c.look-x.result.span.to (let_no_gets c.args.n us x-left x-is fs co c.look-g.result.token x.cuts x.word c.look-g.ensures.token_is c.in_default-token.not-Gets) x.onward x.within
 
 pub returns : goal.returns
 returns c =

@@ -5,6 +5,6 @@ use Rattle.parser.proofs.stack.push.Goals as goal
 
 pub returns : goal.returns
 returns c =
-    let l : length c.copy-from-slice.new.self ≡ 4 = search rules in
-    let e = pushes c.args.words.now c.copy-from-slice.new.self c.pack-frame.result c.args.d (λ line. frame_is line c.args.f) c.copy-from-slice.ensures.after l c.pack-frame.ensures c.requires in
+    let l : length c.copy_from_slice.new.self ≡ 4 = search rules in
+    let e = pushes c.args.words.now c.copy_from_slice.new.self c.pack_frame.result c.args.d (λ line. frame_is line c.args.f) c.copy_from_slice.ensures.after l c.pack_frame.ensures c.requires in
     record { adds = e.adds; below = e.below }

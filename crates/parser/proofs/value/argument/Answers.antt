@@ -19,7 +19,7 @@ returns-in-Comma c =
     let s = saw b.len ws p.at c.look-s.result Comma c.look-s.ensures c.in-Comma.is refl in
     let s-is = span_of line c.look-s.result.span in
     let s-left = left line c.look-s.result.span.to in
-    onto b p _ ws _ _ _ _ s.onward (arg_comma us s-left s-is fs co s.cuts c.args.f c.args.k s.word) c.put-wait.ensures
+    onto b p _ ws _ _ _ _ s.onward (arg_comma us s-left s-is fs co s.cuts c.args.f c.args.k s.word) c.put_wait.ensures
 
 pub returns-in-Close : goal.returns-in-Close
 returns-in-Close c =
@@ -38,14 +38,14 @@ returns-in-Close c =
     let kept = c.emit.ensures.below b.base (omega arith) in
     let fr = c.emit.ensures.above line p.depth (omega arith) in
     let ad = c.emit.ensures.adds line in
-    let w2 = c.patch-count.new.words in
-    let kept2 = c.patch-count.ensures.below b.base (omega arith) in
-    let fr2 = c.patch-count.ensures.above line p.depth (omega arith) in
-    let ad2 = c.patch-count.ensures.counts line ∙ ap (λ o. patch o c.args.f (c.args.k + 1)) ad in
+    let w2 = c.patch_count.new.words in
+    let kept2 = c.patch_count.ensures.below b.base (omega arith) in
+    let fr2 = c.patch_count.ensures.above line p.depth (omega arith) in
+    let ad2 = c.patch_count.ensures.counts line ∙ ap (λ o. patch o c.args.f (c.args.k + 1)) ad in
     onto_later b p _ ws w2 _ _ _ _ s.onward c.requires.0.line_in (kept2 ∙ kept) (arg_close us s-left s-is fs co s.cuts c.args.f c.args.k s.word ∙ (λ j. going (p_value 7) s-left (sym (fr2 ∙ fr) j) (sym ad2 j ++ (o_end s-is.to ∷ [])))) c.put.ensures
 
-pub returns-in-default : goal.returns-in-default
-returns-in-default c =
+pub returns-in_default : goal.returns-in_default
+returns-in_default c =
     let b = c.args.b in
     let p = c.args.p in
     let ws = c.args.words.now in
@@ -53,4 +53,4 @@ returns-in-default c =
     let us = left line p.at in
     let fs = frames_of line p.depth ws in
     let co = ops_of line b.base p.count ws in
-    stops b p ws _ p.at (arg_no us fs co c.look-s.result.token c.look-s.ensures.token_is c.args.f c.args.k c.in-default.not-Comma c.in-default.not-Close) (omega arith) c.requires.0.at_in
+    stops b p ws _ p.at (arg_no us fs co c.look-s.result.token c.look-s.ensures.token_is c.args.f c.args.k c.in_default.not-Comma c.in_default.not-Close) (omega arith) c.requires.0.at_in

@@ -17,10 +17,10 @@ returns-in-In c =
     let s = saw b.len ws p.at c.look-s.result In c.look-s.ensures c.in-In.is refl in
     let s-is = span_of line c.look-s.result.span in
     let s-left = left line c.look-s.result.span.to in
-    onto b p _ ws _ _ _ _ s.onward (bound_in us s-left s-is fs co s.cuts c.args.n (span_of line c.args.x) s.word) c.put-wait.ensures
+    onto b p _ ws _ _ _ _ s.onward (bound_in us s-left s-is fs co s.cuts c.args.n (span_of line c.args.x) s.word) c.put_wait.ensures
 
-pub returns-in-default : goal.returns-in-default
-returns-in-default c =
+pub returns-in_default : goal.returns-in_default
+returns-in_default c =
     let b = c.args.b in
     let p = c.args.p in
     let ws = c.args.words.now in
@@ -28,4 +28,4 @@ returns-in-default c =
     let us = left line p.at in
     let fs = frames_of line p.depth ws in
     let co = ops_of line b.base p.count ws in
-    stops b p ws _ p.at (bound_no us fs co c.look-s.result.token c.look-s.ensures.token_is c.args.n (span_of line c.args.x) c.in-default.not-In) (omega arith) c.requires.at_in
+    stops b p ws _ p.at (bound_no us fs co c.look-s.result.token c.look-s.ensures.token_is c.args.n (span_of line c.args.x) c.in_default.not-In) (omega arith) c.requires.at_in

@@ -19,8 +19,8 @@ returns-in-Else c =
     let s-left = left line c.look-s.result.span.to in
     onto b p _ ws _ _ _ _ s.onward (then_else us s-left s-is fs co s.cuts c.args.n s.word) c.wait.ensures
 
-pub returns-in-default : goal.returns-in-default
-returns-in-default c =
+pub returns-in_default : goal.returns-in_default
+returns-in_default c =
     let b = c.args.b in
     let p = c.args.p in
     let ws = c.args.words.now in
@@ -28,4 +28,4 @@ returns-in-default c =
     let us = left line p.at in
     let fs = frames_of line p.depth ws in
     let co = ops_of line b.base p.count ws in
-    stops b p ws _ p.at (then_no us fs co c.look-s.result.token c.look-s.ensures.token_is c.args.n c.in-default.not-Else) (omega arith) c.requires.at_in
+    stops b p ws _ p.at (then_no us fs co c.look-s.result.token c.look-s.ensures.token_is c.args.n c.in_default.not-Else) (omega arith) c.requires.at_in

@@ -20,8 +20,8 @@ returns-in-Dot c =
     let s-left = left line c.look-s.result.span.to in
     onto b p _ ws _ _ _ _ s.onward (dot_yes us s-left s-is fs co s.cuts s.word) c.field.ensures
 
-pub returns-in-default : goal.returns-in-default
-returns-in-default c =
+pub returns-in_default : goal.returns-in_default
+returns-in_default c =
     let b = c.args.b in
     let p = c.args.p in
     let ws = c.args.words.now in
@@ -29,4 +29,4 @@ returns-in-default c =
     let us = left line p.at in
     let fs = frames_of line p.depth ws in
     let co = ops_of line b.base p.count ws in
-    moves 24 b p ws _ (PhaseValue 6) (dot_no us fs co c.look-s.result.token c.look-s.ensures.token_is c.in-default.not-Dot) c.requires
+    moves 24 b p ws _ (PhaseValue 6) (dot_no us fs co c.look-s.result.token c.look-s.ensures.token_is c.in_default.not-Dot) c.requires

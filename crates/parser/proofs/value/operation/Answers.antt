@@ -6,8 +6,8 @@ use Rattle.parser.specs.Rows.{ops_of, frames_of, span_of, line_of}
 use Rattle.parser.proofs.Ways.{saw, onto, moves, op_none, op_other, op_some}
 use Rattle.parser.proofs.value.operation.Goals as goal
 
-pub returns-in-default : goal.returns-in-default
-returns-in-default c =
+pub returns-in_default : goal.returns-in_default
+returns-in_default c =
     let b = c.args.b in
     let p = c.args.p in
     let ws = c.args.words.now in
@@ -15,7 +15,7 @@ returns-in-default c =
     let us = left line p.at in
     let fs = frames_of line p.depth ws in
     let co = ops_of line b.base p.count ws in
-    moves 24 b p ws _ (PhaseValue c.args.j) (op_none c.args.j us fs co c.look-s.result.token c.look-s.ensures.token_is c.in-default.not-Sign) c.requires
+    moves 24 b p ws _ (PhaseValue c.args.j) (op_none c.args.j us fs co c.look-s.result.token c.look-s.ensures.token_is c.in_default.not-Sign) c.requires
 
 pub returns-then-level-j : goal.returns-then-level-j
 returns-then-level-j c =

@@ -8,8 +8,8 @@ use Rattle.lexer.proofs.reader.Reader.next.Goals.{then-from-line-via-then-from-l
 pub returns-then-from-line : goal.returns-then-from-line
 returns-then-from-line c =
     let xs = c.args.self.now.line.now in
-    let i = c.blanks-end-from.result in
-    let told = c.blanks-end-from.ensures in
+    let i = c.blanks_end-from.result in
+    let told = c.blanks_end-from.ensures in
     record {
       line = refl;
       within = omega arith;
