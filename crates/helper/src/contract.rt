@@ -1,7 +1,7 @@
 // The six calls of a helper, as a trait, and what they say.
 ghost use Rattle.std.specs.Prelude.{◌≡◌, ℕ};
 ghost use Rattle.semantics.specs.Names.{Texts};
-ghost use Rattle.semantics.specs.Answers.{faults, type_of, «where-is»};
+ghost use Rattle.semantics.specs.Answers.{faults, type_of, where_is};
 ghost use Rattle.helper.specs.Says.{OpenSays, EditSays, CloseSays, AskSays};
 
 // What came of a change: it is made; or there is no such file, no such place in it, or too few words are lent for the texts as they
@@ -69,6 +69,6 @@ pub trait Helper {
     fn declared_at(&mut self, name: &[u8], place: usize, out: &mut [u64]) -> Answer
         requires { fit self.old }
         ensures fits { fit self.new }
-        ensures says { AskSays («where-is» (texts self.old) name.now place) (texts self.old) out.old out.new (texts self.new) result }
+        ensures says { AskSays (where_is (texts self.old) name.now place) (texts self.old) out.old out.new (texts self.new) result }
         ensures lent { words self.new ≡ words self.old };
 }

@@ -21,8 +21,8 @@ newest-h-requires c =
     let d = deep_long (drop c.args.memo ws) c.args.f (omega arith) in
     (omega arith, omega arith)
 
-pub back-look-requires : goal.back-look-requires
-back-look-requires c =
+pub back_look-requires : goal.back_look-requires
+back_look-requires c =
     let ws = c.args.mem.now in
     let t = c.requires.there in
     let s = frame_seven _ _ _ t.2 t.3 t.4.4 in
@@ -38,10 +38,10 @@ returns-then-h-eq0 c =
     let ws = c.args.mem.now in
     let wh = whole c.args.memo ws in
     let h = subst (λ q. Heads c.newest-h.result.tag c.newest-h.result.key c.newest-h.result.x c.newest-h.result.y c.newest-h.result.z (deep c.args.f q) (deep (c.args.f - 7) q)) wh c.newest-h.ensures in
-    return_look c.args.known c.args.memo c.args.r c.args.f c.args.n ws _ _ _ _ _ _ h c.if-h-eq0.true c.back-look.new.mem c.back-look.result c.back-look.ensures
+    return_look c.args.known c.args.memo c.args.r c.args.f c.args.n ws _ _ _ _ _ _ h c.if-h-eq0.true c.back_look.new.mem c.back_look.result c.back_look.ensures
 
-pub back-work-requires : goal.back-work-requires
-back-work-requires c =
+pub back_work-requires : goal.back_work-requires
+back_work-requires c =
     let ws = c.args.mem.now in
     let t = c.requires.there in
     let s = frame_seven _ _ _ t.2 t.3 t.4.4 in
@@ -60,15 +60,15 @@ returns c =
     let f = c.args.f in
     let n = c.args.n in
     let a = c.requires.area in
-    let v = c.back-work.new.work in
+    let v = c.back_work.new.work in
     let k = length ws - memo in
     let vs = put_mid memo k ws v in
     let wl = length-drop memo ws in
     let wh = whole memo ws in
-    let vl : length v ≡ k = c.back-work.auto.work ∙ ap length wh ∙ wl in
+    let vl : length v ≡ k = c.back_work.auto.work ∙ ap length wh ∙ wl in
     let l = lent memo k ws v refl vl (omega arith) in
-    let t = c.back-work.result in
-    let b = c.back-work.ensures in
+    let t = c.back_work.result in
+    let b = c.back_work.ensures in
     let rm = b.room in
     let lw = ap length wh in
     let h = subst (λ q. Heads c.newest-h.result.tag c.newest-h.result.key c.newest-h.result.x c.newest-h.result.y c.newest-h.result.z (deep f q) (deep (f - 7) q)) wh c.newest-h.ensures in

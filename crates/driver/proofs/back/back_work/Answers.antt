@@ -7,5 +7,5 @@ pub returns : goal.returns
 returns c =
     record {
       room = omega arith;
-      says = λ ms. back_works ms c.args.work.now c.add-answer.new.work c.args.r c.args.f c.args.n _ _ _ _ _ c.requires.reads c.add-answer.ensures.adds (c.add-answer.ensures.above (c.args.f - 7) (omega arith));
+      says = λ ms. back_works ms c.args.work.now c.add_answer.new.work c.args.r c.args.f c.args.n _ _ _ _ _ c.requires.reads c.add_answer.ensures.adds (c.add_answer.ensures.above (c.args.f - 7) (omega arith));
     }

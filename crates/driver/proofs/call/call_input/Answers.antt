@@ -4,11 +4,11 @@ use Rattle.std.proofs.lemmas.List.{take-take, length-take-le}
 use Rattle.driver.proofs.Hands.{hand_before, hand_area, hand_turn}
 use Rattle.driver.proofs.call.call_input.Goals as goal
 
-pub returns-in-default : goal.returns-in-default
-returns-in-default g c =
+pub returns-in_default : goal.returns-in_default
+returns-in_default g c =
     let ws = c.args.mem.now in
     let f = c.args.f in
-    let s = c.in-default.ensures in
+    let s = c.in_default.ensures in
     let y = c.get.new.words in
     let el : length (take (length ws - f) ws) ≡ length ws - f = length-take-le (length ws - f) ws (omega arith) in
     let ly : length y ≡ length ws - f = s.0 ∙ el in

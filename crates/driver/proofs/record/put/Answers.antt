@@ -4,4 +4,4 @@ use Rattle.memo.proofs.Puts.{putMid_puts}
 use Rattle.driver.proofs.record.put.Goals as goal
 
 pub returns : goal.returns
-returns c = putMid_puts c.args.i _ c.args.mem.now c.copy-from-slice.new.self c.args.xs.now c.copy-from-slice.ensures.after (omega arith)
+returns c = putMid_puts c.args.i _ c.args.mem.now c.copy_from_slice.new.self c.args.xs.now c.copy_from_slice.ensures.after (omega arith)

@@ -32,8 +32,8 @@ returns-then-ms-buckets c = λ gs us d l e.
     let ml = memo_long ws c.args.known c.args.memo (omega arith) (omega arith) in
     store_refused c.args.known c.args.memo ws (omega arith) (omega arith) c.requires.fits c.args.k.now (take c.args.n (drop c.args.a ws)) gs (omega arith)
 
-pub overflow-add-records : goal.overflow-add-records
-overflow-add-records c =
+pub overflow_add-records : goal.overflow_add-records
+overflow_add-records c =
     let f = c.requires.fits in
     let ms = memo_in c.args.known c.args.memo c.args.mem.now in
     let ml = memo_long c.args.mem.now c.args.known c.args.memo (omega arith) (omega arith) in
@@ -50,10 +50,10 @@ returns c = λ gs us d l e.
     let k = c.args.k.now in
     let size = 7 + (n + (3 * c.args.count + (c.args.a - c.args.r))) in
     let ans = take n (drop c.args.a ws) in
-    let b = c.bucket-of-b.result in
+    let b = c.bucket_of-b.result in
     let s = sized ws gs c.args.r c.args.a n c.args.count (omega arith) (omega arith) l e in
     let ml = memo_long ws c.args.known c.args.memo (omega arith) (omega arith) in
     let p = c.args.memo - get_or ms 0 0 - size in
     let w = c.write.ensures gs us d l ∙ (λ t. puts p (packed k (get_or ms (3 + b) 0) ans (sym l t) (keys gs) (e t)) ws) in
     let v = c.point.ensures ∙ ap (λ j. set (set (set c.write.new.mem (c.args.known + (3 + b)) (get_or ms 0 0 + j)) (c.args.known + 0) (get_or ms 0 0 + j)) (c.args.known + 1) (get_or ms 1 0 + 1)) s in
-    store_done c.args.known c.args.memo ws (omega arith) (omega arith) c.requires.fits k ans gs b c.bucket-of-b.ensures.is c.bucket-of-b.ensures.below (omega arith) c.write.new.mem c.point.new.mem p (ap (λ j. c.args.memo - get_or ms 0 0 - j) s) w v
+    store_done c.args.known c.args.memo ws (omega arith) (omega arith) c.requires.fits k ans gs b c.bucket_of-b.ensures.is c.bucket_of-b.ensures.below (omega arith) c.write.new.mem c.point.new.mem p (ap (λ j. c.args.memo - get_or ms 0 0 - j) s) w v

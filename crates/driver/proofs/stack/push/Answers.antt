@@ -5,4 +5,4 @@ use Rattle.driver.proofs.Words.{pushed}
 use Rattle.driver.proofs.stack.push.Goals as goal
 
 pub returns : goal.returns
-returns c = pushed c.args.f c.args.xs.now c.args.work.now _ (putMid_puts _ _ c.args.work.now c.copy-from-slice.new.self c.args.xs.now c.copy-from-slice.ensures.after (omega arith)) c.requires
+returns c = pushed c.args.f c.args.xs.now c.args.work.now _ (putMid_puts _ _ c.args.work.now c.copy_from_slice.new.self c.args.xs.now c.copy_from_slice.ensures.after (omega arith)) c.requires

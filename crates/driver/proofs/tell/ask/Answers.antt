@@ -16,17 +16,17 @@ returns c =
     let memo = c.args.memo in
     let f = c.args.f in
     let r = c.args.r in
-    let v = c.push-work.new.work in
+    let v = c.push_work.new.work in
     let k = length ws - memo in
     let vs = put_mid memo k ws v in
     let wl = length-drop memo ws in
     let wh = whole memo ws in
-    let vl : length v ≡ k = c.push-work.auto.work ∙ ap length wh ∙ wl in
+    let vl : length v ≡ k = c.push_work.auto.work ∙ ap length wh ∙ wl in
     let l = lent memo k ws v refl vl (omega arith) in
     let w = drop memo ws in
     let added : deep (f + 10) (drop memo vs) ≡ work_words c.args.k.now c.args.n c.args.from c.args.q.now (deep f w) =
-    ap (deep (f + 10)) l.work ∙ c.push-work.ensures.adds ∙ ap (λ q. work_words c.args.k.now c.args.n c.args.from c.args.q.now (deep f q)) wh in
-    let rows : take r (drop memo vs) ≡ take r w = ap (take r) l.work ∙ c.push-work.ensures.below r (omega (arith, ap length wh)) ∙ ap (take r) wh in (
+    ap (deep (f + 10)) l.work ∙ c.push_work.ensures.adds ∙ ap (λ q. work_words c.args.k.now c.args.n c.args.from c.args.q.now (deep f q)) wh in
+    let rows : take r (drop memo vs) ≡ take r w = ap (take r) l.work ∙ c.push_work.ensures.below r (omega (arith, ap length wh)) ∙ ap (take r) wh in (
       area_on known memo r f r (f + 10) ws vs a l.long l.before (omega arith),
       l.before,
       ask_turn (memo_in known memo ws) (memo_in known memo vs) w (drop memo vs) r f c.args.k.now c.args.n c.args.from c.args.q.now (same_memo known memo ws vs a.low l.before) added rows,

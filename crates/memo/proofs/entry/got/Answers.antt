@@ -15,8 +15,8 @@ word-c-requires c =
     let e0 = c.word-a.ensures in
     (omega arith, omega arith)
 
-pub overflow-add-p-3 : goal.overflow-add-p-3
-overflow-add-p-3 c =
+pub overflow_add-p-3 : goal.overflow_add-p-3
+overflow_add-p-3 c =
     let s = looking c.args.words.now c.args.d c.args.i c.args.q c.requires.0 c.requires.1.0 c.requires.1.1 in
     let e0 = c.word-a.ensures in
     let e1 = c.word-c.ensures in
@@ -47,8 +47,8 @@ word-requires-3 c =
     let e0 = c.word-a.ensures in
     (omega arith, omega arith)
 
-pub overflow-add-p-4 : goal.overflow-add-p-4
-overflow-add-p-4 c =
+pub overflow_add-p-4 : goal.overflow_add-p-4
+overflow_add-p-4 c =
     let s = looking c.args.words.now c.args.d c.args.i c.args.q c.requires.0 c.requires.1.0 c.requires.1.1 in
     let e0 = c.word-a.ensures in
     let e1 = c.word-c.ensures in
@@ -64,8 +64,8 @@ part-requires c =
     let e3 = e2 ∙ (λ t. get_or (deep c.args.d c.args.words.now) (7 + (e0 t + 3 * e1 t) + c.args.q) 0) in
     (omega arith, omega arith)
 
-pub overflow-add-result-2 : goal.overflow-add-result-2
-overflow-add-result-2 c =
+pub overflow_add-result-2 : goal.overflow_add-result-2
+overflow_add-result-2 c =
     let s = looking c.args.words.now c.args.d c.args.i c.args.q c.requires.0 c.requires.1.0 c.requires.1.1 in
     let e0 = c.word-a.ensures in
     let e1 = c.word-c.ensures in

@@ -5,17 +5,17 @@ use Rattle.memo.proofs.Places.{Chain, begins, chain_record, chain_stands, goes_o
 use Rattle.memo.proofs.index.find.Goals as goal
 
 pub loop-d-init : goal.loop-d-init
-loop-d-init c = subst (λ i. Chain c.args.words.now c.args.k.now (get_or c.args.words.now (3 + i) 0)) (sym c.bucket-of.ensures.is) (begins c.args.words.now c.args.k.now c.requires)
+loop-d-init c = subst (λ i. Chain c.args.words.now c.args.k.now (get_or c.args.words.now (3 + i) 0)) (sym c.bucket_of.ensures.is) (begins c.args.words.now c.args.k.now c.requires)
 
-pub key-at-requires : goal.key-at-requires
-key-at-requires c = let s = chain_stands c.args.words.now c.args.k.now c.loop-d.d c.requires c.loop-d.invariant c.loop-d-test.true in (omega arith, omega arith)
+pub key_at-requires : goal.key_at-requires
+key_at-requires c = let s = chain_stands c.args.words.now c.args.k.now c.loop-d.d c.requires c.loop-d.invariant c.loop-d-test.true in (omega arith, omega arith)
 
 pub word-d-requires : goal.word-d-requires
 word-d-requires c = let s = chain_stands c.args.words.now c.args.k.now c.loop-d.d c.requires c.loop-d.invariant c.loop-d-test.true in (omega arith, omega arith)
 
-pub returns-then-same-key : goal.returns-then-same-key
-returns-then-same-key c =
-    let same = ap (λ j. same_key j c.args.k.now) (sym c.key-at.ensures) ∙ sym c.if-same-key.ensures in (
+pub returns-then-same_key : goal.returns-then-same_key
+returns-then-same_key c =
+    let same = ap (λ j. same_key j c.args.k.now) (sym c.key_at.ensures) ∙ sym c.if-same_key.ensures in (
       chain_record c.args.words.now c.args.k.now c.loop-d.d c.requires c.loop-d.invariant c.loop-d-test.true,
       ends_some c.args.words.now c.args.k.now c.loop-d.d c.requires c.loop-d.invariant c.loop-d-test.true same,
     )
@@ -28,7 +28,7 @@ loop-d-smaller c =
 
 pub loop-d-preserved : goal.loop-d-preserved
 loop-d-preserved c =
-    let other = ap (λ j. same_key j c.args.k.now) (sym c.key-at.ensures) ∙ sym c.if-same-key.ensures in
+    let other = ap (λ j. same_key j c.args.k.now) (sym c.key_at.ensures) ∙ sym c.if-same_key.ensures in
     subst (Chain c.args.words.now c.args.k.now) (sym c.word-d.ensures)
     (goes_on c.args.words.now c.args.k.now c.loop-d.d c.requires c.loop-d.invariant c.loop-d-test.true other)
 

@@ -15,8 +15,8 @@ returns-then-words-buckets c =
       keeps = keeps_self c.args.words.now;
     }
 
-pub overflow-add-records : goal.overflow-add-records
-overflow-add-records c =
+pub overflow_add-records : goal.overflow_add-records
+overflow_add-records c =
     let f = c.requires.fits in
     let a = few (get_or c.args.words.now 2 0) (get_or c.args.words.now 1 0) (log c.args.words.now) f.logged in
     let r = f.room in
@@ -32,11 +32,11 @@ returns c =
     let n = c.args.count in
     let keys = c.args.keys.now in
     let row = c.args.row.now in
-    let b = c.bucket-of-b.result in
+    let b = c.bucket_of-b.result in
     let d = get_or ws 0 0 + (7 + (length ans + (length keys + length row))) in
     let e = c.point.ensures ∙ ap (λ u. pointed u b d d (get_or ws 1 0 + 1)) c.write.ensures in
     let fit = c.if-words-buckets.false in
-    let eb = c.bucket-of-b.ensures.is in
+    let eb = c.bucket_of-b.ensures.is in
     record {
       fits = subst Fits (sym e) (append_fits ws c.requires.fits k ans n keys row c.requires.asked.0 c.requires.asked.1 b eb fit);
       says = subst (λ v. StoreSays (made k ans (gots_of n keys row)) ws v true) (sym e) (append_says ws c.requires.fits k ans n keys row c.requires.asked.0 c.requires.asked.1 b eb fit);

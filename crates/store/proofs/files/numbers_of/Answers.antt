@@ -3,5 +3,5 @@ use Rattle.std.proofs.Common.{arith}
 use Rattle.store.proofs.Tables.{file_ok}
 use Rattle.store.proofs.files.numbers_of.Goals as goal
 
-pub bytes-from-requires : goal.bytes-from-requires
-bytes-from-requires c = let x = file_ok _ _ _ _ _ c.requires.0 c.requires.1 in omega (arith, x.to_end, c.requires.0.sound.pool_to)
+pub bytes_from-requires : goal.bytes_from-requires
+bytes_from-requires c = let x = file_ok _ _ _ _ _ c.requires.0 c.requires.1 in omega (arith, x.to_end, c.requires.0.sound.pool_to)

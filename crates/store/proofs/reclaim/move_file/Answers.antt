@@ -7,8 +7,8 @@ use Rattle.store.specs.Reclaim.{AllKept}
 use Rattle.store.proofs.Keeps.{can_push, moves}
 use Rattle.store.proofs.reclaim.move_file.Goals as goal
 
-pub push-file-requires : goal.push-file-requires
-push-file-requires c = let e = c.bytes-from-ns.ensures in let a = subst (λ (x : List ℕ). AllKept c.args.buckets c.args.cap c.args.words.now c.keep-number.new.row c.keep-numbers.new.row x) e c.if-not-keep-numbers.ensures in subst (λ (x : List ℕ). Fits c.args.buckets c.args.cap c.args.table.now c.keep-numbers.new.row × (Live c.args.buckets c.keep-numbers.new.row (get_or c.args.words.now c.args.p 0) × Every (Live c.args.buckets c.keep-numbers.new.row) x)) (sym e) (can_push _ _ _ _ _ _ _ _ c.requires.1.0 c.requires.1.1.1 c.if-not-keep-number.ensures a)
+pub push_file-requires : goal.push_file-requires
+push_file-requires c = let e = c.bytes_from-ns.ensures in let a = subst (λ (x : List ℕ). AllKept c.args.buckets c.args.cap c.args.words.now c.keep_number.new.row c.keep_numbers.new.row x) e c.if-not-keep_numbers.ensures in subst (λ (x : List ℕ). Fits c.args.buckets c.args.cap c.args.table.now c.keep_numbers.new.row × (Live c.args.buckets c.keep_numbers.new.row (get_or c.args.words.now c.args.p 0) × Every (Live c.args.buckets c.keep_numbers.new.row) x)) (sym e) (can_push _ _ _ _ _ _ _ _ c.requires.1.0 c.requires.1.1.1 c.if-not-keep_number.ensures a)
 
 pub returns : goal.returns
-returns c = let e = c.bytes-from-ns.ensures in let a = subst (λ (x : List ℕ). AllKept c.args.buckets c.args.cap c.args.words.now c.keep-number.new.row c.keep-numbers.new.row x) e c.if-not-keep-numbers.ensures in moves _ _ _ _ _ _ _ _ c.requires.1.0 c.requires.1.1.1 c.if-not-keep-number.ensures a c.push-file.new.files c.push-file.new.words c.push-file.ensures.filed c.push-file.ensures.more c.push-file.result (subst (λ (x : List ℕ). PushSays c.args.buckets c.args.table.now c.keep-numbers.new.row (get_or c.args.words.now c.args.p 0) x c.push-file.new.files c.push-file.new.words c.push-file.result) e c.push-file.ensures.says)
+returns c = let e = c.bytes_from-ns.ensures in let a = subst (λ (x : List ℕ). AllKept c.args.buckets c.args.cap c.args.words.now c.keep_number.new.row c.keep_numbers.new.row x) e c.if-not-keep_numbers.ensures in moves _ _ _ _ _ _ _ _ c.requires.1.0 c.requires.1.1.1 c.if-not-keep_number.ensures a c.push_file.new.files c.push_file.new.words c.push_file.ensures.filed c.push_file.ensures.more c.push_file.result (subst (λ (x : List ℕ). PushSays c.args.buckets c.args.table.now c.keep_numbers.new.row (get_or c.args.words.now c.args.p 0) x c.push_file.new.files c.push_file.new.words c.push_file.result) e c.push_file.ensures.says)

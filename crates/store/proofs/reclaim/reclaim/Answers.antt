@@ -3,5 +3,5 @@ use Rattle.std.proofs.Common.{refl}
 use Rattle.store.proofs.Keeps.{blank_part, empty_fits}
 use Rattle.store.proofs.reclaim.reclaim.Goals as goal
 
-pub move-all-requires : goal.move-all-requires
-move-all-requires c = let x = empty_fits _ _ c.args.table.now _ c.clear.ensures.sound (c.if-not-roomy.ensures.yes refl).some_table in (c.requires, (blank_part _ _ _ _ c.clear.ensures, (x.0, x.1)))
+pub move_all-requires : goal.move_all-requires
+move_all-requires c = let x = empty_fits _ _ c.args.table.now _ c.clear.ensures.sound (c.if-not-roomy.ensures.yes refl).some_table in (c.requires, (blank_part _ _ _ _ c.clear.ensures, (x.0, x.1)))
