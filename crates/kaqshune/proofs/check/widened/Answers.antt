@@ -1,4 +1,4 @@
-use Rattle.std.proofs.Common.{vec_items, sym, ◌∙◌}
+use Rattle.std.proofs.Common.{vec_items, ◌∙◌}
 use Rattle.kaqshune.proofs.Widen.{one_more, take_all}
 use Rattle.kaqshune.proofs.check.widened.Goals as goal
 

@@ -1,4 +1,4 @@
-use Rattle.std.proofs.Common.{◌≡◌, length, take, Err, vec_items, sym, ap, ◌∙◌, subst}
+use Rattle.std.proofs.Common.{◌≡◌, length, Err, vec_items, ◌∙◌, subst}
 use Rattle.grammar.specs.Grammar.{i_bad}
 use Rattle.syntax.specs.Line.{item_in, Understood, LineSays}
 use Rattle.kaqshune.proofs.Widen.{laid}
