@@ -1,19 +1,19 @@
 -- The fields of what a line declares, in the line's code.
-use Rattle.std.proofs.Common.{◌≡◌, ℕ, zero, suc, ◌+◌, ◌-◌, ◌*◌, ◌/◌, ◌<◌, ◌≤◌, min, List, [], ◌∷◌, ◌++◌, length, take, drop, Some, None, sym, refl, ap, ◌∙◌, subst, arith}
+use Rattle.std.proofs.Common.{◌≡◌, ℕ, zero, suc, ◌+◌, ◌-◌, ◌*◌, ◌≤◌, List, [], ◌∷◌, length, take, drop, Some, sym, refl, ap, ◌∙◌, subst, arith}
 use Rattle.std.specs.List.{slice_get}
-use Rattle.std.proofs.lemmas.List.{length-take, length-drop, drop-drop, drop-take, take-take, take_all}
+use Rattle.std.proofs.lemmas.List.{length-take, length-drop, drop-drop, drop-take, take-take}
 use Rattle.base.specs.Base.{Word}
 use Rattle.lexer.specs.Tokens.{Tok}
 use Rattle.grammar.specs.Grammar.{Field, Item, nothing, i_use, i_kind, i_rec, i_def, i_bad}
 use Rattle.grammar.specs.Code.{Op, onto, item_code, slots_onto, consts_code, o_slot, o_result, o_body}
 use Rattle.semantics.specs.Names.{Decl, decl, consts, decls_item}
-use Rattle.parser.specs.Rows.{ops, ops_of}
+use Rattle.parser.specs.Rows.{ops}
 use Rattle.syntax.specs.Line.{item_in}
 use Rattle.syntax.proofs.Views.{ops_take, ops_drop}
 use Rattle.declarations.proofs.Found.{ops_length}
 use Rattle.collector.specs.declared.Layout.{Layout}
 use Rattle.collector.specs.declared.line.Loaded.{Loaded}
-use Rattle.collector.specs.Rows.{Wrote, InOrder}
+use Rattle.collector.specs.Rows.{Wrote}
 use Rattle.collector.specs.Says.{plain, line_of, Loads}
 use Rattle.collector.proofs.Writes.{part_same, front_same}
 use Rattle.collector.proofs.Heads.{plain_decls}

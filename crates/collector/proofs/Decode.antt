@@ -1,7 +1,6 @@
 -- What stands in the table is what its layout says.
-use Rattle.std.proofs.Common.{◌≡◌, ℕ, zero, suc, ◌+◌, ◌-◌, ◌*◌, ◌<◌, ◌≤◌, List, [], ◌∷◌, ◌++◌, map, length, get_or, take, drop, sym, refl, ap, ◌∙◌, subst, arith}
+use Rattle.std.proofs.Common.{◌≡◌, ℕ, ◌+◌, ◌-◌, ◌*◌, ◌≤◌, List, [], ◌∷◌, ◌++◌, map, length, get_or, take, drop, sym, refl, ap, ◌∙◌, arith}
 use Rattle.std.proofs.lemmas.List.{length-append, length-take, length-drop, get_or_append_left, get_or-append_right, get_or-take, get_or-drop, ext_get_or, drop-drop}
-use Rattle.base.specs.Base.{Word}
 use Rattle.lexer.specs.Tokens.{Tok, tok}
 use Rattle.grammar.specs.Grammar.{Field}
 use Rattle.semantics.specs.Names.{Decl}
@@ -9,9 +8,8 @@ use Rattle.semantics.specs.Theorems.{Each}
 use Rattle.symbols.specs.Table.{word, text_at, part_at, tok_at, fields_at, decl_at, decl_long, decls_from}
 use Rattle.symbols.specs.Tabled.{Owned}
 use Rattle.collector.specs.Rows.{Held}
-use Rattle.collector.specs.Entries.{TokIn, FieldIn, Entry, Inside, slot_words, entry_words, entries_words, decl_of, decl_need}
+use Rattle.collector.specs.Entries.{TokIn, FieldIn, Entry, Inside, slot_words, entry_words, entries_words, decl_of}
 use Rattle.collector.proofs.Loading.{cut_in}
-use Rattle.collector.proofs.Fields.{slot_words_long}
 use Rattle.collector.proofs.Entered.{entry_long}
 
 pub held_left : (ws : List ℕ) (a : ℕ) (xs ys : List ℕ) → Held ws a (xs ++ ys) → Held ws a xs

@@ -1,10 +1,9 @@
 -- Declarations that stand in the table.
-use Rattle.std.proofs.Common.{◌≡◌, ℕ, zero, suc, ◌+◌, ◌-◌, ◌*◌, ◌<◌, ◌≤◌, List, [], ◌∷◌, ◌++◌, map, length, take, drop, Some, None, sym, refl, ap, ◌∙◌, subst, arith}
+use Rattle.std.proofs.Common.{◌≡◌, ℕ, ◌+◌, ◌-◌, ◌*◌, ◌<◌, ◌≤◌, List, [], ◌∷◌, ◌++◌, map, length, Some, sym, refl, ap, ◌∙◌, subst, arith}
 use Rattle.std.specs.List.{slice_get}
 use Rattle.std.proofs.lemmas.List.{append-nil, append_assoc, length-append, map-append}
-use Rattle.lexer.specs.Tokens.{Tok, toks, gap}
+use Rattle.lexer.specs.Tokens.{toks, gap}
 use Rattle.semantics.specs.Names.{Decl, decls_item}
-use Rattle.semantics.specs.Theorems.{Each, Among}
 use Rattle.semantics.proofs.Lists.{each_cat}
 use Rattle.declarations.specs.Theorems.{DeclIn}
 use Rattle.syntax.specs.Line.{item_in}
@@ -12,10 +11,10 @@ use Rattle.symbols.specs.Table.{word}
 use Rattle.collector.specs.declared.Layout.{Layout}
 use Rattle.collector.specs.declared.line.Loaded.{Loaded}
 use Rattle.collector.specs.declared.entry.Head.{Head}
-use Rattle.collector.specs.Rows.{Wrote, Kept, Held}
+use Rattle.collector.specs.Rows.{Wrote, Held}
 use Rattle.collector.specs.Entries.{Entry, Inside, slot_words, entry_words, entries_words, decl_of, decl_need, decls_need, Declared}
 use Rattle.collector.specs.Says.{HeadIs, InTexts}
-use Rattle.collector.proofs.Writes.{held_none, held_join, held_at, held_wrote, held_kept}
+use Rattle.collector.proofs.Writes.{held_none, held_join, held_at, held_wrote}
 use Rattle.collector.proofs.Heads.{begun, begun_same, decl_in, entry_inside}
 use Rattle.collector.proofs.Fields.{slot_words_long}
 

@@ -1,9 +1,9 @@
 -- Fields and parameters written one behind the other.
-use Rattle.std.proofs.Common.{◌≡◌, ℕ, zero, suc, ◌+◌, ◌-◌, ◌*◌, ◌<◌, ◌≤◌, min, List, [], ◌∷◌, ◌++◌, length, get_or, take, drop, Some, None, sym, refl, ap, ◌∙◌, subst, add-one, arith}
+use Rattle.std.proofs.Common.{◌≡◌, ℕ, zero, suc, ◌+◌, ◌*◌, ◌<◌, ◌≤◌, List, [], ◌∷◌, ◌++◌, length, get_or, take, drop, Some, sym, refl, ap, ◌∙◌, subst, arith}
 use Rattle.std.specs.List.{slice_get}
 use Rattle.std.proofs.lemmas.List.{length-take, length-take-le, length-drop, get_or-take, get_or-drop, take_all}
 use Rattle.grammar.specs.Grammar.{Field}
-use Rattle.grammar.specs.Code.{slots_onto, o_slot}
+use Rattle.grammar.specs.Code.{slots_onto}
 use Rattle.parser.specs.Rows.{ops, op_of, op_is}
 use Rattle.parser.specs.declared.code.Op.{Op}
 use Rattle.syntax.proofs.Views.{ops_nth}

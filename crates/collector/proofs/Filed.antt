@@ -1,10 +1,10 @@
 -- All that the lines of a file declare, one line after the other.
-use Rattle.std.proofs.Common.{◌≡◌, ℕ, zero, suc, ◌+◌, ◌-◌, ◌*◌, ◌<◌, ◌≤◌, Bool, true, false, eqb, ◌⊎◌, List, [], ◌∷◌, ◌++◌, length, take, drop, Some, None, Ok, Err, Result, sym, refl, ap, ◌∙◌, subst, inl, inr, arith}
+use Rattle.std.proofs.Common.{◌≡◌, ℕ, zero, suc, ◌+◌, ◌-◌, ◌*◌, ◌<◌, ◌≤◌, Bool, true, false, eqb, ◌⊎◌, List, [], ◌∷◌, ◌++◌, length, take, drop, Some, Ok, Err, sym, refl, ap, ◌∙◌, subst, inl, inr, arith}
 use Rattle.std.specs.List.{slice_get}
 use Rattle.std.proofs.lemmas.List.{take_all, append_assoc, append-nil, length-take, length-drop}
 use Rattle.base.specs.Base.{pick}
 use Rattle.lexer.specs.Tokens.{Line, cut, lines}
-use Rattle.semantics.specs.Names.{Decl, File, Texts, decls, decls_item, decls_lines}
+use Rattle.semantics.specs.Names.{File, Texts, decls, decls_item, decls_lines}
 use Rattle.syntax.specs.Line.{item_in}
 use Rattle.collector.specs.declared.Layout.{Layout}
 use Rattle.collector.specs.declared.NoRoom.{NoRoom}
@@ -12,11 +12,11 @@ use Rattle.collector.specs.declared.line.Loaded.{Loaded}
 use Rattle.collector.specs.declared.entry.Origin.{Origin}
 use Rattle.collector.specs.declared.entry.Listed.{Listed}
 use Rattle.collector.specs.declared.lines.Put.{Put}
-use Rattle.collector.specs.Rows.{Wrote, Kept, InOrder, texts_in}
-use Rattle.collector.specs.Entries.{Declared, decl_need, decls_need}
+use Rattle.collector.specs.Rows.{Kept, InOrder, texts_in}
+use Rattle.collector.specs.Entries.{Declared, decls_need}
 use Rattle.collector.specs.Says.{line_of, InTexts, LineIn, LineTrouble, LineSays, LoadSays, There, BeginsAt, WentOn, NthIn, NthShort, NthSays, LinesSays}
 use Rattle.collector.proofs.Writes.{kept_none, kept_wrote, kept_on, kept_wider, kept_any, order_kept, texts_kept}
-use Rattle.collector.proofs.Heads.{nth_lt, nth_some}
+use Rattle.collector.proofs.Heads.{nth_some}
 use Rattle.collector.proofs.Fields.{take_nth}
 use Rattle.collector.proofs.Entered.{declared_none, declared_join, declared_in, need_cat, need_many}
 

@@ -1,5 +1,5 @@
 -- A file's words, its list and its declarations.
-use Rattle.std.proofs.Common.{◌≡◌, ℕ, zero, suc, ◌+◌, ◌-◌, ◌*◌, ◌<◌, ◌≤◌, ◌⊎◌, List, [], ◌∷◌, length, Some, None, Ok, Err, sym, refl, ap, ◌∙◌, subst, inl, inr, arith}
+use Rattle.std.proofs.Common.{◌≡◌, ℕ, ◌+◌, ◌-◌, ◌*◌, ◌<◌, ◌≤◌, ◌⊎◌, List, [], ◌∷◌, length, Some, Ok, Err, ◌∙◌, subst, inl, inr, arith}
 use Rattle.std.specs.List.{slice_get}
 use Rattle.semantics.specs.Names.{File, Texts, decls, used}
 use Rattle.source.specs.declared.Extent.{Extent}
@@ -8,10 +8,10 @@ use Rattle.symbols.specs.Table.{word, file_row}
 use Rattle.collector.specs.declared.Layout.{Layout}
 use Rattle.collector.specs.declared.NoRoom.{NoRoom}
 use Rattle.collector.specs.declared.entry.Listed.{Listed}
-use Rattle.collector.specs.Rows.{Wrote, Kept, Held, InOrder, texts_in}
-use Rattle.collector.specs.Entries.{Declared, Using, decls_need, uses_need}
-use Rattle.collector.specs.Says.{LineTrouble, WentOn, UsesSays, LinesSays}
-use Rattle.collector.specs.Collected.{file_need, FileStands, FileWrote, FileSays}
+use Rattle.collector.specs.Rows.{Wrote, Held, InOrder, texts_in}
+use Rattle.collector.specs.Entries.{Declared, decls_need, uses_need}
+use Rattle.collector.specs.Says.{LineTrouble, UsesSays, LinesSays}
+use Rattle.collector.specs.Collected.{file_need, FileSays}
 use Rattle.collector.proofs.Writes.{kept_on, order_kept, texts_kept}
 use Rattle.collector.proofs.Heads.{nth_lt}
 use Rattle.collector.proofs.Entered.{declared_in, need_many}

@@ -1,22 +1,22 @@
 -- What a line declares, and its pieces.
-use Rattle.std.proofs.Common.{◌≡◌, ℕ, zero, suc, ◌+◌, ◌-◌, ◌*◌, ◌<◌, ◌≤◌, min, List, [], ◌∷◌, length, take, drop, Some, None, sym, refl, ap, ◌∙◌, subst, inl, inr, arith}
+use Rattle.std.proofs.Common.{◌≡◌, ℕ, zero, suc, ◌+◌, ◌-◌, ◌<◌, ◌≤◌, min, List, [], ◌∷◌, length, take, drop, Some, sym, refl, ap, ◌∙◌, subst, inl, inr, arith}
 use Rattle.std.specs.List.{slice_get}
 use Rattle.std.proofs.lemmas.List.{length-take, length-drop, take-take, drop-drop}
 use Rattle.std.proofs.lemmas.Slice.{between_is}
 use Rattle.base.specs.Base.{Word}
-use Rattle.lexer.specs.Tokens.{Tok, tok, Line, toks, gap, pieces}
+use Rattle.lexer.specs.Tokens.{Tok, tok, toks, gap}
 use Rattle.lexer.specs.Theorems.{Lies, Rising}
 use Rattle.lexer.proofs.Rises.{pieces_rise}
-use Rattle.grammar.specs.Grammar.{Field, Item, nothing, i_use, i_kind, i_rec, i_def, i_bad, item}
-use Rattle.grammar.specs.Code.{Op, item_code, slots_onto, consts_code}
+use Rattle.grammar.specs.Grammar.{Field, Item, nothing, i_use, i_kind, i_rec, i_def, i_bad}
+use Rattle.grammar.specs.Code.{slots_onto}
 use Rattle.semantics.specs.Names.{Decl, decl, consts, decls_item, uses_item}
 use Rattle.semantics.specs.Theorems.{Each, One, Among}
 use Rattle.semantics.proofs.Lists.{each_at, each_map}
 use Rattle.declarations.specs.Declares.{TypeWord}
 use Rattle.declarations.specs.Theorems.{Names, FieldIn as FieldAmong, DeclIn}
-use Rattle.declarations.proofs.Inline.{line_in, type_in}
+use Rattle.declarations.proofs.Inline.{line_in}
 use Rattle.syntax.specs.Line.{item_in}
-use Rattle.collector.specs.Entries.{TokIn, FieldIn, Entry, Inside}
+use Rattle.collector.specs.Entries.{TokIn, FieldIn, Inside}
 use Rattle.collector.specs.Says.{plain}
 
 pub plain_decls : (s : ℕ) (it : Item) → decls_item s (plain it) ≡ decls_item s it

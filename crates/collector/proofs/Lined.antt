@@ -1,7 +1,7 @@
 -- All that a line declares, one declaration after the other.
-use Rattle.std.proofs.Common.{◌≡◌, ℕ, zero, suc, ◌+◌, ◌-◌, ◌*◌, ◌<◌, ◌≤◌, List, [], ◌∷◌, ◌++◌, length, take, drop, Some, None, Ok, Err, sym, refl, ap, ◌∙◌, subst, arith}
+use Rattle.std.proofs.Common.{◌≡◌, ℕ, zero, suc, ◌+◌, ◌*◌, ◌<◌, ◌≤◌, List, [], ◌∷◌, length, take, Some, Ok, Err, sym, ap, ◌∙◌, subst, arith}
 use Rattle.std.specs.List.{slice_get}
-use Rattle.std.proofs.lemmas.List.{take_all, take-append-drop}
+use Rattle.std.proofs.lemmas.List.{take_all}
 use Rattle.semantics.specs.Names.{Decl, decls_item}
 use Rattle.grammar.specs.Grammar.{Item}
 use Rattle.grammar.specs.Code.{item_code}
@@ -14,9 +14,9 @@ use Rattle.collector.specs.declared.Layout.{Layout}
 use Rattle.collector.specs.declared.NoRoom.{NoRoom}
 use Rattle.collector.specs.declared.line.Loaded.{Loaded}
 use Rattle.collector.specs.declared.entry.Origin.{Origin}
-use Rattle.collector.specs.Rows.{Wrote, Kept, Held, InOrder}
+use Rattle.collector.specs.Rows.{Wrote, InOrder}
 use Rattle.collector.specs.Entries.{Declared, decl_need, decls_need}
-use Rattle.collector.specs.Says.{plain, line_of, Loads, InTexts, WroteOn, EntrySays, LineSays}
+use Rattle.collector.specs.Says.{plain, line_of, Loads, InTexts, WroteOn, EntrySays}
 use Rattle.collector.proofs.Writes.{wrote_none, wrote_on, wrote_wider, order_kept}
 use Rattle.collector.proofs.Heads.{nth_some, plain_decls, item_many}
 use Rattle.collector.proofs.Fields.{take_nth}

@@ -1,19 +1,18 @@
 -- The files that the lines of a file use, line after line.
-use Rattle.std.proofs.Common.{◌≡◌, ℕ, zero, suc, ◌+◌, ◌-◌, ◌<◌, ◌≤◌, ◌⊎◌, List, [], ◌∷◌, ◌++◌, length, take, Some, None, Ok, Err, Result, sym, refl, ap, ◌∙◌, subst, inl, inr, arith}
+use Rattle.std.proofs.Common.{◌≡◌, ℕ, ◌+◌, ◌<◌, ◌≤◌, ◌⊎◌, List, [], ◌∷◌, length, take, Some, Ok, Err, Result, sym, ap, ◌∙◌, subst, inl, inr, arith}
 use Rattle.std.specs.List.{slice_get}
 use Rattle.std.proofs.lemmas.List.{take_all}
 use Rattle.base.specs.Base.{Word}
-use Rattle.lexer.specs.Tokens.{Line, lines}
+use Rattle.lexer.specs.Tokens.{lines}
 use Rattle.semantics.specs.Names.{File, Texts, uses_item, uses_lines, used}
 use Rattle.semantics.specs.Read.{with_used}
-use Rattle.parser.specs.declared.code.Span.{Span}
 use Rattle.syntax.specs.Line.{item_in}
 use Rattle.collector.specs.declared.Layout.{Layout}
 use Rattle.collector.specs.declared.NoRoom.{NoRoom}
 use Rattle.collector.specs.declared.line.Loaded.{Loaded}
-use Rattle.collector.specs.Rows.{Wrote, Kept, InOrder, texts_in}
+use Rattle.collector.specs.Rows.{Kept, InOrder, texts_in}
 use Rattle.collector.specs.Entries.{Using, uses_need}
-use Rattle.collector.specs.Says.{line_of, word_in, LineIn, LineTrouble, LoadSays, WentOn, PutUseSays, UsedIn, UseShort, NthUseSays, UsesSays}
+use Rattle.collector.specs.Says.{line_of, LineIn, LineTrouble, LoadSays, WentOn, PutUseSays, UseShort, NthUseSays, UsesSays}
 use Rattle.collector.proofs.Writes.{kept_none, kept_wrote, kept_on, kept_wider, kept_any, order_kept, texts_kept}
 use Rattle.collector.proofs.Fields.{take_nth}
 use Rattle.collector.proofs.Used.{using_none, using_in, uses_more, need_upto}

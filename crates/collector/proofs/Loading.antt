@@ -1,5 +1,5 @@
 -- A line copied to the front of the row and read.
-use Rattle.std.proofs.Common.{◌≡◌, ℕ, zero, suc, ◌+◌, ◌-◌, ◌*◌, ◌/◌, ◌<◌, ◌≤◌, min, ◌⊎◌, List, [], ◌∷◌, ◌++◌, length, get_or, take, drop, Some, Ok, Err, Result, sym, refl, ap, ◌∙◌, subst, inl, inr, arith}
+use Rattle.std.proofs.Common.{◌≡◌, ℕ, ◌+◌, ◌-◌, ◌*◌, ◌/◌, ◌<◌, ◌≤◌, min, ◌⊎◌, List, length, get_or, take, drop, Some, Ok, Err, Result, sym, refl, ap, ◌∙◌, subst, inl, inr, arith}
 use Rattle.std.proofs.lemmas.List.{length-take, length-drop, take_all, get_or-take, get_or-drop, ext_get_or, drop-take, take-take, drop-drop}
 use Rattle.std.proofs.lemmas.Bool.{cases_lt}
 use Rattle.grammar.specs.Grammar.{Item, nothing, i_use, i_kind, i_rec, i_def, i_bad}
@@ -11,14 +11,14 @@ use Rattle.declarations.proofs.Found.{ops_length}
 use Rattle.symbols.specs.Table.{word}
 use Rattle.collector.specs.declared.Layout.{Layout}
 use Rattle.collector.specs.declared.line.Loaded.{Loaded}
-use Rattle.collector.specs.Rows.{Wrote, Kept, InOrder, texts_in}
+use Rattle.collector.specs.Rows.{Kept, InOrder, texts_in}
 use Rattle.std.specs.List.{slice_get}
-use Rattle.lexer.specs.Tokens.{Line, lines}
-use Rattle.semantics.specs.Names.{File, Texts}
+use Rattle.lexer.specs.Tokens.{lines}
+use Rattle.semantics.specs.Names.{Texts}
 use Rattle.source.specs.declared.Extent.{Extent}
-use Rattle.source.specs.Source.{LineSays as SourceSays, Stands}
+use Rattle.source.specs.Source.{LineSays as SourceSays}
 use Rattle.collector.specs.declared.NoRoom.{NoRoom}
-use Rattle.collector.specs.Says.{plain, line_of, Loads, TooLong, InTexts, ReadSays, LoadSays, LineIn, LineTrouble}
+use Rattle.collector.specs.Says.{plain, line_of, Loads, TooLong, ReadSays, LoadSays}
 
 pub plain_understood : (it : Item) → Understood it → plain it ≡ it
 plain_understood nothing u = refl

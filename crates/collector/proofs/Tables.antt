@@ -1,21 +1,19 @@
 -- The table of all files.
-use Rattle.std.proofs.Common.{◌≡◌, ℕ, zero, suc, ◌+◌, ◌-◌, ◌*◌, ◌<◌, ◌≤◌, min, ◌⊎◌, List, [], ◌∷◌, length, get_or, take, drop, Some, None, Ok, Err, sym, refl, ap, ◌∙◌, subst, inl, inr, arith}
+use Rattle.std.proofs.Common.{◌≡◌, ℕ, zero, suc, ◌+◌, ◌-◌, ◌*◌, ◌<◌, ◌≤◌, ◌⊎◌, List, [], ◌∷◌, length, get_or, take, drop, Some, Ok, Err, sym, refl, ap, ◌∙◌, subst, inl, inr, arith}
 use Rattle.std.specs.List.{slice_get}
 use Rattle.std.proofs.lemmas.List.{length-take, length-drop, length-map, get_or-take, get_or-drop, drop-drop, take-take}
-use Rattle.std.proofs.lemmas.Bool.{cases_lt, cases_order}
+use Rattle.std.proofs.lemmas.Bool.{cases_lt}
 use Rattle.semantics.specs.Names.{File, Texts, decls, used}
-use Rattle.source.specs.Source.{Stands}
 use Rattle.symbols.specs.Table.{word, text_at, file_row, file_name, used_in, first_decl, decl_count, decls_from}
 use Rattle.symbols.specs.Tabled.{Uses, Owned, FileTabled, Tabled}
 use Rattle.collector.specs.declared.Layout.{Layout}
 use Rattle.collector.specs.declared.NoRoom.{NoRoom}
-use Rattle.collector.specs.Rows.{Wrote, Kept, Held, InOrder, texts_in}
-use Rattle.collector.specs.Entries.{Declared, Using, decl_of, decls_need, uses_need}
+use Rattle.collector.specs.Rows.{Kept, Held, InOrder, texts_in}
+use Rattle.collector.specs.Entries.{decl_of}
 use Rattle.collector.specs.Says.{LineTrouble}
-use Rattle.collector.specs.Collected.{file_need, files_need, table_need, FileStands, FileWrote, FileSays, Collected, TooFew, CollectSays}
+use Rattle.collector.specs.Collected.{file_need, files_need, table_need, FileStands, FileWrote, FileSays, Collected, TooFew}
 use Rattle.collector.proofs.Writes.{held_at, kept_none, kept_wider, order_kept, texts_kept}
 use Rattle.collector.proofs.Heads.{nth_lt, nth_some}
-use Rattle.collector.proofs.Fields.{take_nth}
 use Rattle.collector.proofs.Loading.{cut_in}
 use Rattle.collector.proofs.Entered.{declared_at}
 use Rattle.collector.proofs.Used.{using_at, using_end}

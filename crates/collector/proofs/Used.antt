@@ -1,5 +1,5 @@
 -- The files that a file uses, each once.
-use Rattle.std.proofs.Common.{◌≡◌, ℕ, zero, suc, ◌+◌, ◌-◌, ◌*◌, ◌<◌, ◌≤◌, Bool, true, false, ◌||◌, ◌⊎◌, List, [], ◌∷◌, ◌++◌, length, get_or, take, drop, Some, None, sym, refl, ap, ◌∙◌, subst, inl, inr, arith, rules}
+use Rattle.std.proofs.Common.{◌≡◌, ℕ, zero, suc, ◌+◌, ◌-◌, ◌<◌, ◌≤◌, Bool, true, false, List, [], ◌∷◌, ◌++◌, length, get_or, take, Some, sym, refl, ap, ◌∙◌, subst, inl, inr, arith, rules}
 use mathlib.Core.Option.{some, none}
 use Rattle.std.specs.List.{slice_get}
 use Rattle.std.proofs.lemmas.List.{length-append}
@@ -15,7 +15,6 @@ use Rattle.symbols.specs.Table.{word}
 use Rattle.symbols.specs.Tabled.{Uses, no_more, absent, present}
 use Rattle.collector.specs.Rows.{Wrote, Held}
 use Rattle.collector.specs.Entries.{Using, uses_need}
-use Rattle.collector.proofs.Fields.{take_nth}
 use Rattle.collector.proofs.Writes.{held_none, held_join, held_at, held_in}
 
 pub same_true : (a b : Word) → same a b ≡ true → a ≡ b

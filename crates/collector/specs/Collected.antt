@@ -1,5 +1,5 @@
 -- The table of all files, and when it is refused.
-use Rattle.std.specs.Prelude.{◌≡◌, ℕ, ◌+◌, ◌-◌, ◌*◌, ◌<◌, ◌≤◌, ◌⊎◌, List, [], ◌∷◌, length, take, drop, Some, Ok, Err, Result}
+use Rattle.std.specs.Prelude.{◌≡◌, ℕ, ◌+◌, ◌-◌, ◌<◌, ◌≤◌, ◌⊎◌, List, [], ◌∷◌, length, take, drop, Some, Ok, Err, Result}
 use Rattle.std.specs.List.{slice_get}
 use Rattle.semantics.specs.Names.{File, Texts, decls, used}
 use Rattle.source.specs.declared.Extent.{Extent}

@@ -20,7 +20,7 @@ use Rattle.collector.specs.declared.entry.Head.{Head}
 use Rattle.collector.specs.declared.entry.Origin.{Origin}
 use Rattle.collector.specs.declared.entry.Listed.{Listed}
 use Rattle.collector.specs.declared.lines.Put.{Put}
-use Rattle.collector.specs.Rows.{Wrote, Kept, Held, texts_in}
+use Rattle.collector.specs.Rows.{Wrote, Kept, texts_in}
 use Rattle.collector.specs.Entries.{Declared, Using, decl_need, decls_need, uses_need}
 
 -- a line that isn't understood says nothing

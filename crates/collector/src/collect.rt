@@ -23,10 +23,10 @@ fn put_file<S: Source>(
     at: usize,
 ) -> Result<usize, NoRoom>
     requires order { InOrder l words.old }
-    requires fits { fits source.now (texts_in l words.old) }
-    requires there { (x : Meant) × (slice_get (holds source.now (texts_in l words.old)) file ≡ Some x) }
-    requires place { (l.index + 1 + 6 * length (holds source.now (texts_in l words.old)) ≤ «at») × («at» ≤ l.work) }
-    ensures { FileSays (holds source.now (texts_in l words.old)) l file words.old «at» words.new result }
+    requires fits { S.fits source.now (texts_in l words.old) }
+    requires there { (x : Meant) × (slice_get (S.holds source.now (texts_in l words.old)) file ≡ Some x) }
+    requires place { (l.index + 1 + 6 * length (S.holds source.now (texts_in l words.old)) ≤ «at») × («at» ≤ l.work) }
+    ensures { FileSays (S.holds source.now (texts_in l words.old)) l file words.old «at» words.new result }
 {
     let Some(name) = source.name(texts_of(words, l), file) else {
         return Err(NoRoom);
@@ -48,9 +48,9 @@ fn put_file<S: Source>(
 // The symbol table of the texts that the source holds, from index on.
 pub fn collect<S: Source>(source: &S, words: &mut [u32], l: Layout) -> Result<(), NoRoom>
     requires order { InOrder l words.old }
-    requires fits { fits source.now (texts_in l words.old) }
+    requires fits { S.fits source.now (texts_in l words.old) }
     ensures texts { texts_in l words.new ≡ texts_in l words.old }
-    ensures says { CollectSays (holds source.now (texts_in l words.old)) l words.old words.new result }
+    ensures says { CollectSays (S.holds source.now (texts_in l words.old)) l words.old words.new result }
 {
     let files = source.files(texts_of(words, l));
     let room = l.work - l.index;

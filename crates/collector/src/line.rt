@@ -48,9 +48,9 @@ pub fn load<S: Source>(
     i: usize,
 ) -> Result<Loaded, NoRoom>
     requires order { InOrder l words.old }
-    requires fits { fits source.now (texts_in l words.old) }
-    requires there { There (holds source.now (texts_in l words.old)) file i }
-    ensures { LoadSays (holds source.now (texts_in l words.old)) l file i words.old words.new result }
+    requires fits { S.fits source.now (texts_in l words.old) }
+    requires there { There (S.holds source.now (texts_in l words.old)) file i }
+    ensures { LoadSays (S.holds source.now (texts_in l words.old)) l file i words.old words.new result }
 {
     let Some(e) = source.line(texts_of(words, l), file, i) else {
         return Err(NoRoom);

@@ -32,11 +32,11 @@ fn put_nth<S: Source>(
     at: usize,
 ) -> Result<Put, NoRoom>
     requires order { InOrder l words.old }
-    requires fits { fits source.now (texts_in l words.old) }
-    requires there { There (holds source.now (texts_in l words.old)) file i }
-    requires begins { BeginsAt (holds source.now (texts_in l words.old)) file i start }
+    requires fits { S.fits source.now (texts_in l words.old) }
+    requires there { There (S.holds source.now (texts_in l words.old)) file i }
+    requires begins { BeginsAt (S.holds source.now (texts_in l words.old)) file i start }
     requires place { (l.index ≤ «at») × («at» ≤ l.work) × (file < 4294967296) }
-    ensures { NthSays (holds source.now (texts_in l words.old)) l file i start words.old «at» words.new result }
+    ensures { NthSays (S.holds source.now (texts_in l words.old)) l file i start words.old «at» words.new result }
 {
     if start > FARTHEST {
         return Err(NoRoom);
@@ -62,10 +62,10 @@ pub fn put_lines<S: Source>(
     at: usize,
 ) -> Result<Listed, NoRoom>
     requires order { InOrder l words.old }
-    requires fits { fits source.now (texts_in l words.old) }
-    requires there { (x : Meant) × (slice_get (holds source.now (texts_in l words.old)) file ≡ Some x) }
+    requires fits { S.fits source.now (texts_in l words.old) }
+    requires there { (x : Meant) × (slice_get (S.holds source.now (texts_in l words.old)) file ≡ Some x) }
     requires place { (l.index ≤ «at») × («at» ≤ l.work) × (file < 4294967296) }
-    ensures { LinesSays (holds source.now (texts_in l words.old)) l file words.old «at» words.new result }
+    ensures { LinesSays (S.holds source.now (texts_in l words.old)) l file words.old «at» words.new result }
 {
     let lines = source.lines(texts_of(words, l), file);
     let mut start = 0;

@@ -40,9 +40,9 @@ fn word_at<'a>(words: &'a [u32], s: Span) -> &'a [u32]
 // Whether a file has the name that stands at places of the front.
 fn named<S: Source>(source: &S, words: &[u32], l: Layout, file: usize, s: Span) -> bool
     requires order { InOrder l words.now }
-    requires fits { fits source.now (texts_in l words.now) }
+    requires fits { S.fits source.now (texts_in l words.now) }
     requires span { (s.from ≤ s.to) × (s.to ≤ length words.now) }
-    ensures { NamedSays (holds source.now (texts_in l words.now)) file (word_in words.now s) result }
+    ensures { NamedSays (S.holds source.now (texts_in l words.now)) file (word_in words.now s) result }
 {
     let texts = texts_of(words, l);
     let Some(e) = source.name(texts, file) else {
@@ -63,10 +63,10 @@ fn is_listed<S: Source>(
     to: usize,
 ) -> bool
     requires order { InOrder l words.now }
-    requires fits { fits source.now (texts_in l words.now) }
+    requires fits { S.fits source.now (texts_in l words.now) }
     requires span { (s.from ≤ s.to) × (s.to ≤ length words.now) }
     requires list { (from ≤ to) × (to ≤ length words.now) }
-    ensures { ListedSays (holds source.now (texts_in l words.now)) words.now from to (word_in words.now s) result }
+    ensures { ListedSays (S.holds source.now (texts_in l words.now)) words.now from to (word_in words.now s) result }
 {
     for j in from..to {
         if named(source, words, l, words[j] as usize, s) {
@@ -87,12 +87,12 @@ fn put_use<S: Source>(
     to: usize,
 ) -> Result<usize, NoRoom>
     requires order { InOrder l words.old }
-    requires fits { fits source.now (texts_in l words.old) }
-    requires few { length (holds source.now (texts_in l words.old)) < 4294967296 }
-    requires there { (x : Meant) × (slice_get (holds source.now (texts_in l words.old)) file ≡ Some x) }
+    requires fits { S.fits source.now (texts_in l words.old) }
+    requires few { length (S.holds source.now (texts_in l words.old)) < 4294967296 }
+    requires there { (x : Meant) × (slice_get (S.holds source.now (texts_in l words.old)) file ≡ Some x) }
     requires span { (s.from ≤ s.to) × (s.to ≤ length words.old) }
     requires list { (from ≤ to) × (to ≤ l.work) }
-    ensures { PutUseSays (holds source.now (texts_in l words.old)) l file (word_in words.old s) words.old from to words.new result }
+    ensures { PutUseSays (S.holds source.now (texts_in l words.old)) l file (word_in words.old s) words.old from to words.new result }
 {
     if named(source, words, l, file, s) {
         return Ok(to);
@@ -121,11 +121,11 @@ fn use_nth<S: Source>(
     to: usize,
 ) -> Result<usize, NoRoom>
     requires order { InOrder l words.old }
-    requires fits { fits source.now (texts_in l words.old) }
-    requires few { length (holds source.now (texts_in l words.old)) < 4294967296 }
-    requires there { There (holds source.now (texts_in l words.old)) file i }
+    requires fits { S.fits source.now (texts_in l words.old) }
+    requires few { length (S.holds source.now (texts_in l words.old)) < 4294967296 }
+    requires there { There (S.holds source.now (texts_in l words.old)) file i }
     requires list { (l.index ≤ from) × (from ≤ to) × (to ≤ l.work) }
-    ensures { NthUseSays (holds source.now (texts_in l words.old)) l file i words.old from to words.new result }
+    ensures { NthUseSays (S.holds source.now (texts_in l words.old)) l file i words.old from to words.new result }
 {
     let line = load(source, words, l, file, i)?;
     let Some(s) = used_at(words, l, line) else {
@@ -143,11 +143,11 @@ pub fn put_uses<S: Source>(
     at: usize,
 ) -> Result<usize, NoRoom>
     requires order { InOrder l words.old }
-    requires fits { fits source.now (texts_in l words.old) }
-    requires few { length (holds source.now (texts_in l words.old)) < 4294967296 }
-    requires there { (x : Meant) × (slice_get (holds source.now (texts_in l words.old)) file ≡ Some x) }
+    requires fits { S.fits source.now (texts_in l words.old) }
+    requires few { length (S.holds source.now (texts_in l words.old)) < 4294967296 }
+    requires there { (x : Meant) × (slice_get (S.holds source.now (texts_in l words.old)) file ≡ Some x) }
     requires place { (l.index ≤ «at») × («at» ≤ l.work) }
-    ensures { UsesSays (holds source.now (texts_in l words.old)) l file words.old «at» words.new result }
+    ensures { UsesSays (S.holds source.now (texts_in l words.old)) l file words.old «at» words.new result }
 {
     let lines = source.lines(texts_of(words, l), file);
     let mut to = at;

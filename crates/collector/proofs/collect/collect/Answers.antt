@@ -1,5 +1,5 @@
 -- The whole table.
-use Rattle.std.proofs.Common.{◌≡◌, ℕ, ◌+◌, ◌-◌, ◌*◌, ◌/◌, ◌<◌, ◌≤◌, List, [], ◌∷◌, length, Some, Ok, Err, sym, refl, ap, ◌∙◌, subst, inr, arith}
+use Rattle.std.proofs.Common.{◌≡◌, ◌+◌, ◌-◌, ◌*◌, ◌<◌, ◌≤◌, [], ◌∷◌, length, Some, Ok, Err, sym, refl, ap, ◌∙◌, subst, inr, arith}
 use Rattle.std.specs.List.{slice_get}
 use Rattle.std.proofs.lemmas.Result.{err_from_is_err_and}
 use Rattle.semantics.specs.Names.{File}
@@ -17,7 +17,7 @@ returns-then-room-eq0 g c =
     let ws = c.args.words.now in
     let l = c.args.l in
     let p = g.S.Source.holds s (texts_in l ws) in
-    let n : c.files-files.result ≡ length p = c.files-files.ensures ∙ ap (λ m. length (g.S.Source.holds s m)) c.texts-of.ensures in
+    let n : c.files-files.result ≡ length p = c.files-files.ensures ∙ ap (λ m. length (g.S.Source.holds s m)) c.texts_of.ensures in
     let short : l.work - l.index < 1 + 6 * length p = elim c.then-room-eq0.branch [ then-room-eq0-via-then-room-eq0 w ↦ omega (arith, w.if-room-eq0.true) | then-room-eq0-via-else-room-eq0+then-room-files w ↦ omega (arith, w.if-room-eq0.false, w.if-room-files.true, n) ] in
     record { texts = refl; says = inr (few_rows p (l.work - l.index) short) }
 
@@ -30,14 +30,14 @@ loop-k-init g c =
     let w1 = c.put.new.words in
     let e1 : texts_in l w1 ≡ texts_in l ws = texts_kept l l.index (l.index + 1) ws w1 o.slot (omega arith) (kept_wrote l l.index (l.index + 1) ws w1 c.put.ensures.wrote) in
     let p = g.S.Source.holds s (texts_in l w1) in
-    let n : c.files-files.result ≡ length p = c.files-files.ensures ∙ ap (λ m. length (g.S.Source.holds s m)) (c.texts-of.ensures ∙ sym e1) in
+    let n : c.files-files.result ≡ length p = c.files-files.ensures ∙ ap (λ m. length (g.S.Source.holds s m)) (c.texts_of.ensures ∙ sym e1) in
     let o1 = order_kept l ws w1 c.put.ensures.wrote.long o in
     let b : base_of p l ≡ l.index + 1 + 6 * c.files-files.result = omega arith in
     let room : base_of p l ≤ l.work = omega (arith, c.if-room-eq0.false, c.if-room-files.false) in
     subst (λ a. Tabling p l w1 0 a w1) b (tabling_none p l w1 o1 room (subst (λ f. Held w1 l.index (f ∷ [])) n c.put.ensures.held))
 
-pub put-file-requires : goal.put-file-requires
-put-file-requires g c =
+pub put_file-requires : goal.put_file-requires
+put_file-requires g c =
     let s = c.args.source.now in
     let ws = c.args.words.now in
     let l = c.args.l in
@@ -45,7 +45,7 @@ put-file-requires g c =
     let w1 = c.put.new.words in
     let e1 : texts_in l w1 ≡ texts_in l ws = texts_kept l l.index (l.index + 1) ws w1 o.slot (omega arith) (kept_wrote l l.index (l.index + 1) ws w1 c.put.ensures.wrote) in
     let p = g.S.Source.holds s (texts_in l w1) in
-    let n : c.files-files.result ≡ length p = c.files-files.ensures ∙ ap (λ m. length (g.S.Source.holds s m)) (c.texts-of.ensures ∙ sym e1) in
+    let n : c.files-files.result ≡ length p = c.files-files.ensures ∙ ap (λ m. length (g.S.Source.holds s m)) (c.texts_of.ensures ∙ sym e1) in
     let o1 = order_kept l ws w1 c.put.ensures.wrote.long o in
     let k = c.loop-k.k in
     let vs = c.loop-k.words in
@@ -59,8 +59,8 @@ put-file-requires g c =
       place = (omega (arith, t.ends, ap (λ m. length (g.S.Source.holds s m)) e2), t.within);
     }
 
-pub returns-in-err-at : goal.returns-in-err-at
-returns-in-err-at g c =
+pub returns-in_err-at : goal.returns-in_err-at
+returns-in_err-at g c =
     let s = c.args.source.now in
     let ws = c.args.words.now in
     let l = c.args.l in
@@ -68,16 +68,16 @@ returns-in-err-at g c =
     let w1 = c.put.new.words in
     let e1 : texts_in l w1 ≡ texts_in l ws = texts_kept l l.index (l.index + 1) ws w1 o.slot (omega arith) (kept_wrote l l.index (l.index + 1) ws w1 c.put.ensures.wrote) in
     let p = g.S.Source.holds s (texts_in l w1) in
-    let n : c.files-files.result ≡ length p = c.files-files.ensures ∙ ap (λ m. length (g.S.Source.holds s m)) (c.texts-of.ensures ∙ sym e1) in
+    let n : c.files-files.result ≡ length p = c.files-files.ensures ∙ ap (λ m. length (g.S.Source.holds s m)) (c.texts_of.ensures ∙ sym e1) in
     let o1 = order_kept l ws w1 c.put.ensures.wrote.long o in
     let k = c.loop-k.k in
     let vs = c.loop-k.words in
     let t = c.loop-k.invariant in
     let e2 = tabling_texts p l w1 o1 k c.loop-k.at vs t in
-    let us = c.put-file.new.words in
+    let us = c.put_file.new.words in
     let q = g.S.Source.holds s (texts_in l ws) in
-    let r = err_from_is_err_and c.from-residual.result c.from-residual.ensures.1 in
-    let f = subst (λ m. FileSays (g.S.Source.holds s m) l k vs c.loop-k.at us (Err r.0)) e2 c.in-err-at.ensures in
+    let r = err_from_is_err_and c.from_residual.result c.from_residual.ensures.1 in
+    let f = subst (λ m. FileSays (g.S.Source.holds s m) l k vs c.loop-k.at us (Err r.0)) e2 c.in_err-at.ensures in
     let few = tabling_stops p l w1 o1 k c.loop-k.at vs t us r.0 (omega (arith, n, c.loop-k-test.true)) f in
     record {
       texts = stops_texts p l w1 o1 k c.loop-k.at vs t us f.0 ∙ e1;
@@ -93,15 +93,15 @@ loop-k-preserved g c =
     let w1 = c.put.new.words in
     let e1 : texts_in l w1 ≡ texts_in l ws = texts_kept l l.index (l.index + 1) ws w1 o.slot (omega arith) (kept_wrote l l.index (l.index + 1) ws w1 c.put.ensures.wrote) in
     let p = g.S.Source.holds s (texts_in l w1) in
-    let n : c.files-files.result ≡ length p = c.files-files.ensures ∙ ap (λ m. length (g.S.Source.holds s m)) (c.texts-of.ensures ∙ sym e1) in
+    let n : c.files-files.result ≡ length p = c.files-files.ensures ∙ ap (λ m. length (g.S.Source.holds s m)) (c.texts_of.ensures ∙ sym e1) in
     let o1 = order_kept l ws w1 c.put.ensures.wrote.long o in
     let k = c.loop-k.k in
     let vs = c.loop-k.words in
     let t = c.loop-k.invariant in
     let e2 = tabling_texts p l w1 o1 k c.loop-k.at vs t in
-    let us = c.put-file.new.words in
-    let f = subst (λ m. FileSays (g.S.Source.holds s m) l k vs c.loop-k.at us (Ok c.in-ok-at.at)) e2 c.in-ok-at.ensures in
-    tabling_more p l w1 o1 k c.loop-k.at vs t us c.in-ok-at.at (omega (arith, n, c.loop-k-test.true)) f
+    let us = c.put_file.new.words in
+    let f = subst (λ m. FileSays (g.S.Source.holds s m) l k vs c.loop-k.at us (Ok c.in_ok-at.at)) e2 c.in_ok-at.ensures in
+    tabling_more p l w1 o1 k c.loop-k.at vs t us c.in_ok-at.at (omega (arith, n, c.loop-k-test.true)) f
 
 pub returns : goal.returns
 returns g c =
@@ -112,7 +112,7 @@ returns g c =
     let w1 = c.put.new.words in
     let e1 : texts_in l w1 ≡ texts_in l ws = texts_kept l l.index (l.index + 1) ws w1 o.slot (omega arith) (kept_wrote l l.index (l.index + 1) ws w1 c.put.ensures.wrote) in
     let p = g.S.Source.holds s (texts_in l w1) in
-    let n : c.files-files.result ≡ length p = c.files-files.ensures ∙ ap (λ m. length (g.S.Source.holds s m)) (c.texts-of.ensures ∙ sym e1) in
+    let n : c.files-files.result ≡ length p = c.files-files.ensures ∙ ap (λ m. length (g.S.Source.holds s m)) (c.texts_of.ensures ∙ sym e1) in
     let o1 = order_kept l ws w1 c.put.ensures.wrote.long o in
     let k = c.loop-k.k in
     let vs = c.loop-k.words in

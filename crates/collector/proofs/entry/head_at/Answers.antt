@@ -1,36 +1,29 @@
 -- The i-th of what the line declares.
-use Rattle.std.proofs.Common.{◌≡◌, ℕ, ◌<◌, ◌≤◌, min, List, length, take, Some, sym, refl, ap, ◌∙◌, subst, arith}
+use Rattle.std.proofs.Common.{◌≡◌, ℕ, ◌<◌, ◌≤◌, List, length, take, Some, sym, ap, ◌∙◌, arith}
 use Rattle.std.specs.List.{slice_get}
 use Rattle.std.proofs.lemmas.List.{length-take}
-use Rattle.lexer.specs.Tokens.{Tok, tok, toks, gap}
-use Rattle.lexer.specs.Theorems.{Lies}
-use Rattle.lexer.specs.declared.reader.Piece.{Piece}
-use Rattle.grammar.specs.Grammar.{Item as Meant}
-use Rattle.semantics.specs.Names.{Decl, decls_item}
-use Rattle.semantics.specs.Theorems.{Among}
-use Rattle.declarations.specs.Declares.{TypeWord}
+use Rattle.semantics.specs.Names.{decls_item}
 use Rattle.declarations.proofs.Found.{ops_length}
 use Rattle.declarations.proofs.Inline.{type_in}
-use Rattle.parser.specs.Rows.{ops_of}
 use Rattle.syntax.specs.Line.{item_in}
-use Rattle.syntax.specs.View.{piece_of, ViewSays}
+use Rattle.syntax.specs.View.{piece_of}
 use Rattle.collector.specs.Says.{plain, line_of}
 use Rattle.collector.proofs.Heads.{plain_decls, plain_type, typed, each_nth, slots_long, lies, decl_in, name_lies}
 use Rattle.collector.proofs.entry.head_at.Goals as goal
 
-pub returns-in-default : goal.returns-in-default
-returns-in-default c =
+pub returns-in_default : goal.returns-in_default
+returns-in_default c =
     let line = line_of c.args.words.now c.args.line in
     let it = item_in line in
-    let v = c.item-of-item.ensures (plain it) (omega (arith, c.requires.loads.short, c.requires.order.slot, c.requires.order.table, c.requires.order.row)) c.requires.loads.code_in c.requires.loads.code-is in
-    omega (arith, c.in-default.ensures line (plain it) v, ap length (plain_decls 0 it))
+    let v = c.item_of-item.ensures (plain it) (omega (arith, c.requires.loads.short, c.requires.order.slot, c.requires.order.table, c.requires.order.row)) c.requires.loads.code_in c.requires.loads.code_is in
+    omega (arith, c.in_default.ensures line (plain it) v, ap length (plain_decls 0 it))
 
-pub returns-in-default-type-word : goal.returns-in-default-type-word
-returns-in-default-type-word c =
+pub returns-in_default-type_word : goal.returns-in_default-type_word
+returns-in_default-type_word c =
     let line = line_of c.args.words.now c.args.line in
     let it = item_in line in
-    let v = c.item-of-item.ensures (plain it) (omega (arith, c.requires.loads.short, c.requires.order.slot, c.requires.order.table, c.requires.order.row)) c.requires.loads.code_in c.requires.loads.code-is in
-    omega (arith, ap length (c.in-default-type-word.ensures line (plain it) v), ap length (plain_decls 0 it))
+    let v = c.item_of-item.ensures (plain it) (omega (arith, c.requires.loads.short, c.requires.order.slot, c.requires.order.table, c.requires.order.row)) c.requires.loads.code_in c.requires.loads.code_is in
+    omega (arith, ap length (c.in_default-type_word.ensures line (plain it) v), ap length (plain_decls 0 it))
 
 small : (ws : List ℕ) (len a b : ℕ) → len < 4294967296 → a < b → b ≤ length (take len ws) → (a < 4294967296) × (b < 4294967296)
 small ws len a b h k n = let t = length-take len ws in (omega arith, omega arith)
@@ -40,7 +33,7 @@ span-requires c =
     let ws = c.args.words.now in
     let line = line_of ws c.args.line in
     let it = item_in line in
-    let v = c.item-of-item.ensures (plain it) (omega (arith, c.requires.loads.short, c.requires.order.slot, c.requires.order.table, c.requires.order.row)) c.requires.loads.code_in c.requires.loads.code-is in
+    let v = c.item_of-item.ensures (plain it) (omega (arith, c.requires.loads.short, c.requires.order.slot, c.requires.order.table, c.requires.order.row)) c.requires.loads.code_in c.requires.loads.code_is in
     let a = c.in-Some.ensures line (plain it) v in
     let x = a.0 in
     let p = name_lies line x (decl_in line 0 c.args.i x (ap (λ ds. slice_get ds c.args.i) (sym (plain_decls 0 it)) ∙ a.1)) in
@@ -54,9 +47,9 @@ span-requires-2 c =
     let ws = c.args.words.now in
     let line = line_of ws c.args.line in
     let it = item_in line in
-    let v = c.item-of-item.ensures (plain it) (omega (arith, c.requires.loads.short, c.requires.order.slot, c.requires.order.table, c.requires.order.row)) c.requires.loads.code_in c.requires.loads.code-is in
-    let t = piece_of c.in-Some-type-word.ty in
-    let p = lies line t (type_in (record { start = 0; bytes = line }) t (plain_type it t (c.in-Some-type-word.ensures line (plain it) v))) in
+    let v = c.item_of-item.ensures (plain it) (omega (arith, c.requires.loads.short, c.requires.order.slot, c.requires.order.table, c.requires.order.row)) c.requires.loads.code_in c.requires.loads.code_is in
+    let t = piece_of c.in-Some-type_word.ty in
+    let p = lies line t (type_in (record { start = 0; bytes = line }) t (plain_type it t (c.in-Some-type_word.ensures line (plain it) v))) in
     small ws c.args.line.len t.from t.to (omega (arith, c.requires.loads.short, c.requires.order.slot, c.requires.order.table, c.requires.order.row, c.requires.order.small)) p.some_bytes p.within
 
 pub returns : goal.returns
@@ -64,12 +57,12 @@ returns c =
     let ws = c.args.words.now in
     let line = line_of ws c.args.line in
     let it = item_in line in
-    let v = c.item-of-item.ensures (plain it) (omega (arith, c.requires.loads.short, c.requires.order.slot, c.requires.order.table, c.requires.order.row)) c.requires.loads.code_in c.requires.loads.code-is in
+    let v = c.item_of-item.ensures (plain it) (omega (arith, c.requires.loads.short, c.requires.order.slot, c.requires.order.table, c.requires.order.row)) c.requires.loads.code_in c.requires.loads.code_is in
     let a = c.in-Some.ensures line (plain it) v in
     let x = a.0 in
     let e : slice_get (decls_item 0 it) c.args.i ≡ Some x = ap (λ ds. slice_get ds c.args.i) (sym (plain_decls 0 it)) ∙ a.1 in
-    let t = piece_of c.in-Some-type-word.ty in
-    let w = plain_type it t (c.in-Some-type-word.ensures line (plain it) v) in
+    let t = piece_of c.in-Some-type_word.ty in
+    let w = plain_type it t (c.in-Some-type_word.ensures line (plain it) v) in
     let d = a.2.1 in (
       x,
       e,

@@ -1,9 +1,7 @@
 -- One declaration.
-use Rattle.std.proofs.Common.{◌≡◌, ℕ, ◌+◌, ◌-◌, ◌*◌, ◌/◌, ◌<◌, ◌≤◌, List, length, take, drop, sym, refl, ap, ◌∙◌, arith}
-use Rattle.semantics.specs.Names.{Decl}
+use Rattle.std.proofs.Common.{◌≡◌, ◌+◌, ◌*◌, ◌<◌, length, take, drop, sym, refl, ap, ◌∙◌, arith}
 use Rattle.parser.specs.Rows.{ops}
 use Rattle.syntax.specs.Line.{item_in}
-use Rattle.collector.specs.Rows.{Wrote}
 use Rattle.collector.specs.Says.{line_of}
 use Rattle.collector.proofs.Writes.{wrote_none, wrote_on, part_same}
 use Rattle.collector.proofs.Heads.{begun, item_begun, begun_same, item_many, nth_lt}
@@ -12,10 +10,10 @@ use Rattle.collector.proofs.Entered.{one_entered}
 use Rattle.collector.proofs.entry.put_entry.Goals as goal
 use Rattle.collector.proofs.entry.put_entry.Goals.{then-room-lt-HEAD-via-then-room-lt-HEAD, then-room-lt-HEAD-via-else-room-lt-HEAD+then-room-h}
 
-pub returns-in-default : goal.returns-in-default
-returns-in-default c =
+pub returns-in_default : goal.returns-in_default
+returns-in_default c =
     let it = item_in (line_of c.args.words.now c.args.line) in
-    (record { onward = omega arith; within = c.requires.place.1; wrote = wrote_none c.args.at c.args.words.now }, λ x e. absurd (omega (arith, nth_lt _ c.args.i x e, item_many c.args.by.start 0 it, c.in-default.ensures)), λ m x p e. absurd (omega (arith, nth_lt _ c.args.i x e, item_many c.args.by.start 0 it, c.in-default.ensures)))
+    (record { onward = omega arith; within = c.requires.place.1; wrote = wrote_none c.args.at c.args.words.now }, λ x e. absurd (omega (arith, nth_lt _ c.args.i x e, item_many c.args.by.start 0 it, c.in_default.ensures)), λ m x p e. absurd (omega (arith, nth_lt _ c.args.i x e, item_many c.args.by.start 0 it, c.in_default.ensures)))
 
 pub returns-then-room-lt-HEAD : goal.returns-then-room-lt-HEAD
 returns-then-room-lt-HEAD c =
@@ -27,8 +25,8 @@ returns-then-room-lt-HEAD c =
     elim c.then-room-lt-HEAD.branch [ then-room-lt-HEAD-via-then-room-lt-HEAD w ↦ omega (arith, w.if-room-lt-HEAD.true) | then-room-lt-HEAD-via-else-room-lt-HEAD+then-room-h w ↦ omega (arith, w.if-room-lt-HEAD.false, w.if-room-h.true) ] in
     (refl, (begun c.args.by.start x, item_begun c.args.by.start it c.args.i x h.1, short))
 
-pub put-fields-requires : goal.put-fields-requires
-put-fields-requires c =
+pub put_fields-requires : goal.put_fields-requires
+put_fields-requires c =
     let h = c.in-Some.ensures in
     let x = h.0 in
     let n : length x.fields ≡ c.in-Some.h.slots = h.2.slots_are in
@@ -42,7 +40,7 @@ returns c =
     let l = c.args.l in
     let ws = c.args.words.now in
     let vs = c.put.new.words in
-    let us = c.put-fields.new.words in
+    let us = c.put_fields.new.words in
     let a = c.args.at in
     let s = c.in-Some.h.slots in
     let line = line_of ws c.args.line in
@@ -52,12 +50,12 @@ returns c =
     let w = c.put.ensures.wrote in
     let code : ops line (take (5 * s) (drop (l.work + 5) vs)) ≡ ops line (take (5 * length x.fields) (drop (l.work + 5) ws)) =
     ap (ops line) (part_same ws vs (l.work + 5) (5 * s) w.long (λ i y z. w.behind i (omega (arith, c.if-room-lt-HEAD.false))) ∙ ap (λ k. take (5 * k) (drop (l.work + 5) ws)) (sym n)) in
-    let fl = c.put-fields.ensures.held line x.fields (code ∙ fields_code l ws c.args.line c.requires.loads c.args.i x h.1) in (
+    let fl = c.put_fields.ensures.held line x.fields (code ∙ fields_code l ws c.args.line c.requires.loads c.args.i x h.1) in (
       record {
         onward = omega arith;
         within = omega (arith, c.if-room-h.false, c.if-room-lt-HEAD.false);
-        wrote = wrote_on a (a + 9) (a + 9) (a + 9 + 4 * s) ws vs us (omega arith) (omega arith) w c.put-fields.ensures.wrote;
+        wrote = wrote_on a (a + 9) (a + 9) (a + 9 + 4 * s) ws vs us (omega arith) (omega arith) w c.put_fields.ensures.wrote;
       },
       λ y e. omega (arith, n, ap (λ z. length z.fields) (begun_same c.args.by.start (item_in line) c.args.i x y h.1 e)),
-      λ m y p e. one_entered l m line vs us c.args.line c.args.by.file c.args.by.start a c.args.i c.in-Some.h x y p h.1 h.2 e c.put-fields.ensures.wrote c.put.ensures.held fl,
+      λ m y p e. one_entered l m line vs us c.args.line c.args.by.file c.args.by.start a c.args.i c.in-Some.h x y p h.1 h.2 e c.put_fields.ensures.wrote c.put.ensures.held fl,
     )

@@ -1,4 +1,4 @@
-use Rattle.std.proofs.Common.{◌≡◌, ℕ, ◌+◌, ◌*◌, ◌≤◌, List, [], length, take, drop}
+use Rattle.std.proofs.Common.{◌≡◌, ℕ, ◌+◌, ◌*◌, List, [], take, drop}
 use Rattle.grammar.specs.Grammar.{Field}
 use Rattle.grammar.specs.Code.{slots_onto}
 use Rattle.parser.specs.Rows.{ops}

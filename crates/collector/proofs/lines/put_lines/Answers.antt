@@ -1,8 +1,6 @@
 -- The lines of a file.
-use Rattle.std.proofs.Common.{◌≡◌, ◌≤◌, Some, Ok, Err, sym, ap, ◌∙◌, subst, arith}
-use Rattle.std.specs.List.{slice_get}
+use Rattle.std.proofs.Common.{Ok, Err, sym, subst, arith}
 use Rattle.std.proofs.lemmas.Result.{err_from_is_err_and}
-use Rattle.semantics.specs.Names.{Texts}
 use Rattle.source.specs.Source.{CountSays}
 use Rattle.collector.specs.Rows.{texts_in}
 use Rattle.collector.specs.Says.{There, BeginsAt, NthSays, LinesSays}
@@ -14,14 +12,14 @@ loop-i-init g c =
     let ws = c.args.words.now in
     done_none (g.S.Source.holds c.args.source.now (texts_in c.args.l ws)) c.args.l c.args.file ws c.args.at c.requires.order c.requires.place.0 c.requires.place.1
 
-pub put-nth-requires : goal.put-nth-requires
-put-nth-requires g c =
+pub put_nth-requires : goal.put_nth-requires
+put_nth-requires g c =
     let s = c.args.source.now in
     let ws = c.args.words.now in
     let l = c.args.l in
     let p = g.S.Source.holds s (texts_in l ws) in
     let e = done_texts p l c.args.file ws c.args.at c.requires.order c.requires.place.0 c.loop-i.i c.loop-i.start c.loop-i.count c.loop-i.to c.loop-i.words c.loop-i.invariant in
-    let n = subst (λ m. CountSays (g.S.Source.holds s m) c.args.file c.lines-lines.result) c.texts-of.ensures c.lines-lines.ensures in
+    let n = subst (λ m. CountSays (g.S.Source.holds s m) c.args.file c.lines-lines.result) c.texts_of.ensures c.lines-lines.ensures in
     let t = c.requires.there in
     record {
       order = done_order p l c.args.file ws c.args.at c.requires.order c.requires.place.0 c.loop-i.i c.loop-i.start c.loop-i.count c.loop-i.to c.loop-i.words c.loop-i.invariant;
@@ -31,28 +29,28 @@ put-nth-requires g c =
       place = (omega (arith, c.requires.place.0, c.loop-i.invariant.went.onward), c.loop-i.invariant.went.within, c.requires.place.2);
     }
 
-pub returns-in-err-put : goal.returns-in-err-put
-returns-in-err-put g c =
+pub returns-in_err-put : goal.returns-in_err-put
+returns-in_err-put g c =
     let s = c.args.source.now in
     let ws = c.args.words.now in
     let l = c.args.l in
     let p = g.S.Source.holds s (texts_in l ws) in
     let e = done_texts p l c.args.file ws c.args.at c.requires.order c.requires.place.0 c.loop-i.i c.loop-i.start c.loop-i.count c.loop-i.to c.loop-i.words c.loop-i.invariant in
-    let r = err_from_is_err_and c.from-residual.result c.from-residual.ensures.1 in
-    let n = subst (λ m. NthSays (g.S.Source.holds s m) l c.args.file c.loop-i.i c.loop-i.start c.loop-i.words c.loop-i.to c.put-nth.new.words (Err r.0)) e c.in-err-put.ensures in
-    subst (LinesSays p l c.args.file ws c.args.at c.put-nth.new.words) (sym r.1) (done_stops p l c.args.file ws c.args.at c.requires.order c.requires.place.0 c.loop-i.i c.loop-i.start c.loop-i.count c.loop-i.to c.loop-i.words c.loop-i.invariant c.put-nth.new.words r.0 n)
+    let r = err_from_is_err_and c.from_residual.result c.from_residual.ensures.1 in
+    let n = subst (λ m. NthSays (g.S.Source.holds s m) l c.args.file c.loop-i.i c.loop-i.start c.loop-i.words c.loop-i.to c.put_nth.new.words (Err r.0)) e c.in_err-put.ensures in
+    subst (LinesSays p l c.args.file ws c.args.at c.put_nth.new.words) (sym r.1) (done_stops p l c.args.file ws c.args.at c.requires.order c.requires.place.0 c.loop-i.i c.loop-i.start c.loop-i.count c.loop-i.to c.loop-i.words c.loop-i.invariant c.put_nth.new.words r.0 n)
 
-pub overflow-add-count : goal.overflow-add-count
-overflow-add-count g c =
+pub overflow_add-count : goal.overflow_add-count
+overflow_add-count g c =
     let s = c.args.source.now in
     let ws = c.args.words.now in
     let l = c.args.l in
     let p = g.S.Source.holds s (texts_in l ws) in
     let e = done_texts p l c.args.file ws c.args.at c.requires.order c.requires.place.0 c.loop-i.i c.loop-i.start c.loop-i.count c.loop-i.to c.loop-i.words c.loop-i.invariant in
-    let n = subst (λ m. NthSays (g.S.Source.holds s m) l c.args.file c.loop-i.i c.loop-i.start c.loop-i.words c.loop-i.to c.put-nth.new.words (Ok c.in-ok-put.put)) e c.in-ok-put.ensures in
+    let n = subst (λ m. NthSays (g.S.Source.holds s m) l c.args.file c.loop-i.i c.loop-i.start c.loop-i.words c.loop-i.to c.put_nth.new.words (Ok c.in_ok-put.put)) e c.in_ok-put.ensures in
     let t = c.requires.there in
     let few = done_few p l c.args.file ws c.args.at c.requires.order c.requires.place.0 c.loop-i.i c.loop-i.start c.loop-i.count c.loop-i.to c.loop-i.words c.loop-i.invariant t.0 t.1 in
-    let more = put_few p l c.args.file ws c.args.at c.requires.order c.requires.place.0 c.loop-i.i c.loop-i.start c.loop-i.count c.loop-i.to c.loop-i.words c.loop-i.invariant c.put-nth.new.words c.in-ok-put.put t.0 t.1 n in
+    let more = put_few p l c.args.file ws c.args.at c.requires.order c.requires.place.0 c.loop-i.i c.loop-i.start c.loop-i.count c.loop-i.to c.loop-i.words c.loop-i.invariant c.put_nth.new.words c.in_ok-put.put t.0 t.1 n in
     omega (arith, few, more, c.loop-i.invariant.went.within, n.0.within, c.requires.order.row, c.requires.order.small)
 
 pub loop-i-preserved : goal.loop-i-preserved
@@ -62,8 +60,8 @@ loop-i-preserved g c =
     let l = c.args.l in
     let p = g.S.Source.holds s (texts_in l ws) in
     let e = done_texts p l c.args.file ws c.args.at c.requires.order c.requires.place.0 c.loop-i.i c.loop-i.start c.loop-i.count c.loop-i.to c.loop-i.words c.loop-i.invariant in
-    let n = subst (λ m. NthSays (g.S.Source.holds s m) l c.args.file c.loop-i.i c.loop-i.start c.loop-i.words c.loop-i.to c.put-nth.new.words (Ok c.in-ok-put.put)) e c.in-ok-put.ensures in
-    done_more p l c.args.file ws c.args.at c.requires.order c.requires.place.0 c.loop-i.i c.loop-i.start c.loop-i.count c.loop-i.to c.loop-i.words c.loop-i.invariant c.put-nth.new.words c.in-ok-put.put n
+    let n = subst (λ m. NthSays (g.S.Source.holds s m) l c.args.file c.loop-i.i c.loop-i.start c.loop-i.words c.loop-i.to c.put_nth.new.words (Ok c.in_ok-put.put)) e c.in_ok-put.ensures in
+    done_more p l c.args.file ws c.args.at c.requires.order c.requires.place.0 c.loop-i.i c.loop-i.start c.loop-i.count c.loop-i.to c.loop-i.words c.loop-i.invariant c.put_nth.new.words c.in_ok-put.put n
 
 pub returns : goal.returns
 returns g c =
@@ -71,5 +69,5 @@ returns g c =
     let ws = c.args.words.now in
     let l = c.args.l in
     let p = g.S.Source.holds s (texts_in l ws) in
-    let n = subst (λ m. CountSays (g.S.Source.holds s m) c.args.file c.lines-lines.result) c.texts-of.ensures c.lines-lines.ensures in
+    let n = subst (λ m. CountSays (g.S.Source.holds s m) c.args.file c.lines-lines.result) c.texts_of.ensures c.lines-lines.ensures in
     done_all p l c.args.file ws c.args.at c.requires.order c.requires.place.0 c.loop-i.i c.loop-i.start c.loop-i.count c.loop-i.to c.loop-i.words c.loop-i.invariant (λ x e. omega (arith, n.0 x e, c.loop-i-test.false))

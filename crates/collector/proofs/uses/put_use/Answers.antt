@@ -1,7 +1,6 @@
 -- The use of a name.
-use Rattle.std.proofs.Common.{◌≡◌, ◌+◌, ◌<◌, ◌≤◌, Bool, true, false, length, Some, None, sym, refl, ap, ◌∙◌, subst, arith}
-use mathlib.Core.Option.{some, none}
-use Rattle.base.specs.Base.{among}
+use Rattle.std.proofs.Common.{◌≡◌, length, Some, sym, refl, ap, ◌∙◌, subst, arith}
+use mathlib.Core.Option.{none}
 use Rattle.semantics.specs.Names.{find_file}
 use Rattle.source.specs.Source.{FindSays}
 use Rattle.collector.specs.Entries.{Using}
@@ -20,25 +19,25 @@ returns-then-named g c =
       λ x ns e u. subst (Using p ws c.args.from c.args.to) (sym (used_own x.name (word_in ws c.args.s) ns (sym (c.named.ensures x e) ∙ c.if-named.true))) u,
     )
 
-pub returns-in-default : goal.returns-in-default
-returns-in-default g c =
+pub returns-in_default : goal.returns-in_default
+returns-in_default g c =
     let s = c.args.source.now in
     let ws = c.args.words.now in
     let p = g.S.Source.holds s (texts_in c.args.l ws) in
-    let f : find_file p (word_in ws c.args.s) ≡ none = ap (λ m. find_file (g.S.Source.holds s m) (word_in ws c.args.s)) (sym c.texts-of.ensures) ∙ ap (find_file (g.S.Source.holds s c.texts-of.result.now)) (sym c.word-at.ensures) ∙ c.in-default.ensures in (
+    let f : find_file p (word_in ws c.args.s) ≡ none = ap (λ m. find_file (g.S.Source.holds s m) (word_in ws c.args.s)) (sym c.texts_of.ensures) ∙ ap (find_file (g.S.Source.holds s c.texts_of.result.now)) (sym c.word_at.ensures) ∙ c.in_default.ensures in (
       record { onward = omega arith; within = c.requires.list.1; wrote = wrote_none c.args.to ws },
       λ x ns e u. using_absent p x.name (word_in ws c.args.s) ws c.args.from c.args.to ns (sym (c.named.ensures x e) ∙ c.if-named.false) f u,
     )
 
-pub returns-then-is-listed : goal.returns-then-is-listed
-returns-then-is-listed g c =
+pub returns-then-is_listed : goal.returns-then-is_listed
+returns-then-is_listed g c =
     let s = c.args.source.now in
     let ws = c.args.words.now in
     let w = word_in ws c.args.s in
     let p = g.S.Source.holds s (texts_in c.args.l ws) in
-    let f = subst (λ v. FindSays p v (Some c.in-Some.found)) c.word-at.ensures (subst (λ m. FindSays (g.S.Source.holds s m) c.word-at.result.now (Some c.in-Some.found)) c.texts-of.ensures c.in-Some.ensures) in (
+    let f = subst (λ v. FindSays p v (Some c.in-Some.found)) c.word_at.ensures (subst (λ m. FindSays (g.S.Source.holds s m) c.word_at.result.now (Some c.in-Some.found)) c.texts_of.ensures c.in-Some.ensures) in (
       record { onward = omega arith; within = c.requires.list.1; wrote = wrote_none c.args.to ws },
-      λ x ns e u. subst (Using p ws c.args.from c.args.to) (sym (used_known x.name w ns (sym (c.named.ensures x e) ∙ c.if-named.false) (sym (c.is-listed.ensures ns f.0 u f.2) ∙ c.if-is-listed.true))) u,
+      λ x ns e u. subst (Using p ws c.args.from c.args.to) (sym (used_known x.name w ns (sym (c.named.ensures x e) ∙ c.if-named.false) (sym (c.is_listed.ensures ns f.0 u f.2) ∙ c.if-is_listed.true))) u,
     )
 
 pub returns-then-to-l : goal.returns-then-to-l
@@ -47,15 +46,15 @@ returns-then-to-l g c =
     let ws = c.args.words.now in
     let w = word_in ws c.args.s in
     let p = g.S.Source.holds s (texts_in c.args.l ws) in
-    let f = subst (λ v. FindSays p v (Some c.in-Some.found)) c.word-at.ensures (subst (λ m. FindSays (g.S.Source.holds s m) c.word-at.result.now (Some c.in-Some.found)) c.texts-of.ensures c.in-Some.ensures) in (
+    let f = subst (λ v. FindSays p v (Some c.in-Some.found)) c.word_at.ensures (subst (λ m. FindSays (g.S.Source.holds s m) c.word_at.result.now (Some c.in-Some.found)) c.texts_of.ensures c.in-Some.ensures) in (
       refl,
-      λ x ns e u. using_full p x.name w f.0 ws c.args.from c.args.to c.args.l.work ns (sym (c.named.ensures x e) ∙ c.if-named.false) (sym (c.is-listed.ensures ns f.0 u f.2) ∙ c.if-is-listed.false) f.2 c.if-to-l.true u,
+      λ x ns e u. using_full p x.name w f.0 ws c.args.from c.args.to c.args.l.work ns (sym (c.named.ensures x e) ∙ c.if-named.false) (sym (c.is_listed.ensures ns f.0 u f.2) ∙ c.if-is_listed.false) f.2 c.if-to-l.true u,
     )
 
-pub overflow-cast-found : goal.overflow-cast-found
-overflow-cast-found g c =
+pub overflow_cast-found : goal.overflow_cast-found
+overflow_cast-found g c =
     let s = c.args.source.now in
-    let n = ap (λ m. length (g.S.Source.holds s m)) c.texts-of.ensures in
+    let n = ap (λ m. length (g.S.Source.holds s m)) c.texts_of.ensures in
     let f = c.in-Some.ensures in
     omega (arith, nth_lt _ c.in-Some.found f.0 f.1, n, c.requires.few)
 
@@ -65,7 +64,7 @@ returns g c =
     let ws = c.args.words.now in
     let w = word_in ws c.args.s in
     let p = g.S.Source.holds s (texts_in c.args.l ws) in
-    let f = subst (λ v. FindSays p v (Some c.in-Some.found)) c.word-at.ensures (subst (λ m. FindSays (g.S.Source.holds s m) c.word-at.result.now (Some c.in-Some.found)) c.texts-of.ensures c.in-Some.ensures) in (
+    let f = subst (λ v. FindSays p v (Some c.in-Some.found)) c.word_at.ensures (subst (λ m. FindSays (g.S.Source.holds s m) c.word_at.result.now (Some c.in-Some.found)) c.texts_of.ensures c.in-Some.ensures) in (
       record { onward = omega arith; within = omega (arith, c.if-to-l.false); wrote = c.put.ensures.wrote },
-      λ x ns e u. using_new p x.name w ws c.put.new.words c.args.from c.args.to c.in-Some.found ns (sym (c.named.ensures x e) ∙ c.if-named.false) (sym (c.is-listed.ensures ns f.0 u f.2) ∙ c.if-is-listed.false) f c.put.ensures.wrote c.put.ensures.held u,
+      λ x ns e u. using_new p x.name w ws c.put.new.words c.args.from c.args.to c.in-Some.found ns (sym (c.named.ensures x e) ∙ c.if-named.false) (sym (c.is_listed.ensures ns f.0 u f.2) ∙ c.if-is_listed.false) f c.put.ensures.wrote c.put.ensures.held u,
     )

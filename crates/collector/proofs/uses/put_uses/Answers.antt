@@ -1,5 +1,5 @@
 -- The files that a file uses.
-use Rattle.std.proofs.Common.{◌≡◌, ◌<◌, ◌≤◌, length, Ok, Err, sym, ap, ◌∙◌, subst, arith}
+use Rattle.std.proofs.Common.{◌<◌, length, Ok, Err, sym, subst, arith}
 use Rattle.std.proofs.lemmas.Result.{err_from_is_err_and}
 use Rattle.source.specs.Source.{CountSays}
 use Rattle.collector.specs.Rows.{texts_in}
@@ -12,14 +12,14 @@ loop-i-init g c =
     let ws = c.args.words.now in
     listing_none (g.S.Source.holds c.args.source.now (texts_in c.args.l ws)) c.args.l c.args.file ws c.args.at c.requires.order c.requires.place.0 c.requires.place.1
 
-pub use-nth-requires : goal.use-nth-requires
-use-nth-requires g c =
+pub use_nth-requires : goal.use_nth-requires
+use_nth-requires g c =
     let s = c.args.source.now in
     let ws = c.args.words.now in
     let l = c.args.l in
     let p = g.S.Source.holds s (texts_in l ws) in
     let e = sym (listing_texts p l c.args.file ws c.args.at c.requires.order c.requires.place.0 c.loop-i.i c.loop-i.to c.loop-i.words c.loop-i.invariant) in
-    let n = subst (λ m. CountSays (g.S.Source.holds s m) c.args.file c.lines-lines.result) c.texts-of.ensures c.lines-lines.ensures in
+    let n = subst (λ m. CountSays (g.S.Source.holds s m) c.args.file c.lines-lines.result) c.texts_of.ensures c.lines-lines.ensures in
     let t = c.requires.there in
     record {
       order = listing_order p l c.args.file ws c.args.at c.requires.order c.requires.place.0 c.loop-i.i c.loop-i.to c.loop-i.words c.loop-i.invariant;
@@ -29,16 +29,16 @@ use-nth-requires g c =
       list = (c.requires.place.0, c.loop-i.invariant.went.onward, c.loop-i.invariant.went.within);
     }
 
-pub returns-in-err-to : goal.returns-in-err-to
-returns-in-err-to g c =
+pub returns-in_err-to : goal.returns-in_err-to
+returns-in_err-to g c =
     let s = c.args.source.now in
     let ws = c.args.words.now in
     let l = c.args.l in
     let p = g.S.Source.holds s (texts_in l ws) in
     let e = listing_texts p l c.args.file ws c.args.at c.requires.order c.requires.place.0 c.loop-i.i c.loop-i.to c.loop-i.words c.loop-i.invariant in
-    let r = err_from_is_err_and c.from-residual.result c.from-residual.ensures.1 in
-    let n = subst (λ m. NthUseSays (g.S.Source.holds s m) l c.args.file c.loop-i.i c.loop-i.words c.args.at c.loop-i.to c.use-nth.new.words (Err r.0)) e c.in-err-to.ensures in
-    subst (UsesSays p l c.args.file ws c.args.at c.use-nth.new.words) (sym r.1) (listing_stops p l c.args.file ws c.args.at c.requires.order c.requires.place.0 c.loop-i.i c.loop-i.to c.loop-i.words c.loop-i.invariant c.use-nth.new.words r.0 n)
+    let r = err_from_is_err_and c.from_residual.result c.from_residual.ensures.1 in
+    let n = subst (λ m. NthUseSays (g.S.Source.holds s m) l c.args.file c.loop-i.i c.loop-i.words c.args.at c.loop-i.to c.use_nth.new.words (Err r.0)) e c.in_err-to.ensures in
+    subst (UsesSays p l c.args.file ws c.args.at c.use_nth.new.words) (sym r.1) (listing_stops p l c.args.file ws c.args.at c.requires.order c.requires.place.0 c.loop-i.i c.loop-i.to c.loop-i.words c.loop-i.invariant c.use_nth.new.words r.0 n)
 
 pub loop-i-preserved : goal.loop-i-preserved
 loop-i-preserved g c =
@@ -47,8 +47,8 @@ loop-i-preserved g c =
     let l = c.args.l in
     let p = g.S.Source.holds s (texts_in l ws) in
     let e = listing_texts p l c.args.file ws c.args.at c.requires.order c.requires.place.0 c.loop-i.i c.loop-i.to c.loop-i.words c.loop-i.invariant in
-    let n = subst (λ m. NthUseSays (g.S.Source.holds s m) l c.args.file c.loop-i.i c.loop-i.words c.args.at c.loop-i.to c.use-nth.new.words (Ok c.in-ok-to.to)) e c.in-ok-to.ensures in
-    listing_more p l c.args.file ws c.args.at c.requires.order c.requires.place.0 c.loop-i.i c.loop-i.to c.loop-i.words c.loop-i.invariant c.use-nth.new.words c.in-ok-to.to n
+    let n = subst (λ m. NthUseSays (g.S.Source.holds s m) l c.args.file c.loop-i.i c.loop-i.words c.args.at c.loop-i.to c.use_nth.new.words (Ok c.in_ok-to.to)) e c.in_ok-to.ensures in
+    listing_more p l c.args.file ws c.args.at c.requires.order c.requires.place.0 c.loop-i.i c.loop-i.to c.loop-i.words c.loop-i.invariant c.use_nth.new.words c.in_ok-to.to n
 
 pub returns : goal.returns
 returns g c =
@@ -56,5 +56,5 @@ returns g c =
     let ws = c.args.words.now in
     let l = c.args.l in
     let p = g.S.Source.holds s (texts_in l ws) in
-    let n = subst (λ m. CountSays (g.S.Source.holds s m) c.args.file c.lines-lines.result) c.texts-of.ensures c.lines-lines.ensures in
+    let n = subst (λ m. CountSays (g.S.Source.holds s m) c.args.file c.lines-lines.result) c.texts_of.ensures c.lines-lines.ensures in
     listing_all p l c.args.file ws c.args.at c.requires.order c.requires.place.0 c.loop-i.i c.loop-i.to c.loop-i.words c.loop-i.invariant (λ x e. omega (arith, n.0 x e, c.loop-i-test.false))

@@ -1,5 +1,5 @@
 -- What a line uses.
-use Rattle.std.proofs.Common.{◌≡◌, ◌<◌, ◌≤◌, length, Some, sym, ap, ◌∙◌, subst, arith}
+use Rattle.std.proofs.Common.{◌≡◌, ◌<◌, length, Some, sym, subst, arith}
 use Rattle.std.specs.List.{slice_get}
 use Rattle.std.proofs.lemmas.Result.{err_from_is_err_and}
 use Rattle.semantics.specs.Names.{File}
@@ -9,31 +9,31 @@ use Rattle.collector.proofs.Writes.{order_kept, texts_kept}
 use Rattle.collector.proofs.Listing.{use_unread, use_none, use_some}
 use Rattle.collector.proofs.uses.use_nth.Goals as goal
 
-pub returns-in-err-line : goal.returns-in-err-line
-returns-in-err-line g c =
+pub returns-in_err-line : goal.returns-in_err-line
+returns-in_err-line g c =
     let ws = c.args.words.now in
     let p = g.S.Source.holds c.args.source.now (texts_in c.args.l ws) in
-    let r = err_from_is_err_and c.from-residual.result c.from-residual.ensures.1 in
-    subst (NthUseSays p c.args.l c.args.file c.args.i ws c.args.from c.args.to c.load.new.words) (sym r.1) (use_unread p c.args.l c.args.file c.args.i c.args.from c.args.to ws c.load.new.words c.requires.order c.requires.list.0 c.requires.list.1 c.requires.list.2 r.0 c.in-err-line.ensures)
+    let r = err_from_is_err_and c.from_residual.result c.from_residual.ensures.1 in
+    subst (NthUseSays p c.args.l c.args.file c.args.i ws c.args.from c.args.to c.load.new.words) (sym r.1) (use_unread p c.args.l c.args.file c.args.i c.args.from c.args.to ws c.load.new.words c.requires.order c.requires.list.0 c.requires.list.1 c.requires.list.2 r.0 c.in_err-line.ensures)
 
-pub used-at-requires : goal.used-at-requires
-used-at-requires g c =
-    let d = c.in-ok-line.ensures in
+pub used_at-requires : goal.used_at-requires
+used_at-requires g c =
+    let d = c.in_ok-line.ensures in
     record { order = order_kept c.args.l c.args.words.now c.load.new.words d.0.long c.requires.order; loads = d.1 }
 
-pub returns-in-default : goal.returns-in-default
-returns-in-default g c =
+pub returns-in_default : goal.returns-in_default
+returns-in_default g c =
     let ws = c.args.words.now in
     let p = g.S.Source.holds c.args.source.now (texts_in c.args.l ws) in
-    use_none p c.args.l c.args.file c.args.i c.args.from c.args.to ws c.load.new.words c.requires.order c.requires.list.0 c.requires.list.1 c.requires.list.2 c.in-ok-line.line c.in-ok-line.ensures c.in-default.ensures
+    use_none p c.args.l c.args.file c.args.i c.args.from c.args.to ws c.load.new.words c.requires.order c.requires.list.0 c.requires.list.1 c.requires.list.2 c.in_ok-line.line c.in_ok-line.ensures c.in_default.ensures
 
-pub put-use-requires : goal.put-use-requires
-put-use-requires g c =
+pub put_use-requires : goal.put_use-requires
+put_use-requires g c =
     let s = c.args.source.now in
     let l = c.args.l in
     let ws = c.args.words.now in
     let us = c.load.new.words in
-    let d = c.in-ok-line.ensures in
+    let d = c.in_ok-line.ensures in
     let e = sym (texts_kept l l.index l.index ws us c.requires.order.slot (omega arith) d.0) in
     let u = c.in-Some.ensures in
     let t = c.requires.there in
@@ -53,7 +53,7 @@ returns g c =
     let ws = c.args.words.now in
     let us = c.load.new.words in
     let p = g.S.Source.holds s (texts_in l ws) in
-    let d = c.in-ok-line.ensures in
+    let d = c.in_ok-line.ensures in
     let e = texts_kept l l.index l.index ws us c.requires.order.slot (omega arith) d.0 in
-    let n = subst (λ m. PutUseSays (g.S.Source.holds s m) l c.args.file (word_in us c.in-Some.s) us c.args.from c.args.to c.put-use.new.words c.put-use.result) e c.put-use.ensures in
-    use_some p l c.args.file c.args.i c.args.from c.args.to ws us c.requires.order c.requires.list.0 c.requires.list.1 c.requires.list.2 c.in-ok-line.line d (word_in us c.in-Some.s) c.put-use.new.words c.put-use.result c.in-Some.ensures.2 n
+    let n = subst (λ m. PutUseSays (g.S.Source.holds s m) l c.args.file (word_in us c.in-Some.s) us c.args.from c.args.to c.put_use.new.words c.put_use.result) e c.put_use.ensures in
+    use_some p l c.args.file c.args.i c.args.from c.args.to ws us c.requires.order c.requires.list.0 c.requires.list.1 c.requires.list.2 c.in_ok-line.line d (word_in us c.in-Some.s) c.put_use.new.words c.put_use.result c.in-Some.ensures.2 n

@@ -1,9 +1,7 @@
 -- The file that a line uses.
-use Rattle.std.proofs.Common.{◌≡◌, ℕ, ◌+◌, ◌-◌, ◌<◌, ◌≤◌, List, [], ◌∷◌, length, take, drop, sym, ap, ◌∙◌, arith}
+use Rattle.std.proofs.Common.{◌≡◌, ◌-◌, [], ◌∷◌, take, drop, sym, ap, ◌∙◌, arith}
 use Rattle.std.proofs.lemmas.List.{length-take}
-use Rattle.lexer.specs.Theorems.{Lies}
 use Rattle.declarations.proofs.Inline.{use_in}
-use Rattle.semantics.specs.Names.{uses_item}
 use Rattle.syntax.specs.Line.{item_in}
 use Rattle.syntax.specs.View.{piece_of}
 use Rattle.collector.specs.Says.{plain, line_of}
@@ -16,7 +14,7 @@ span-requires c =
     let ws = c.args.words.now in
     let line = line_of ws c.args.line in
     let it = item_in line in
-    let v = c.item-of.ensures (plain it) (omega (arith, c.requires.loads.short, c.requires.order.slot, c.requires.order.table, c.requires.order.row)) c.requires.loads.code_in c.requires.loads.code-is in
+    let v = c.item_of.ensures (plain it) (omega (arith, c.requires.loads.short, c.requires.order.slot, c.requires.order.table, c.requires.order.row)) c.requires.loads.code_in c.requires.loads.code_is in
     let t = piece_of c.in-Some.name in
     let p = lies line t (use_in (record { start = 0; bytes = line }) t (plain_use it t (c.in-Some.ensures line (plain it) v).0)) in
     let n = length-take c.args.line.len ws in
@@ -31,7 +29,7 @@ returns-in-Some c =
     let line = line_of ws c.args.line in
     let len = c.args.line.len in
     let it = item_in line in
-    let v = c.item-of.ensures (plain it) (omega (arith, c.requires.loads.short, c.requires.order.slot, c.requires.order.table, c.requires.order.row)) c.requires.loads.code_in c.requires.loads.code-is in
+    let v = c.item_of.ensures (plain it) (omega (arith, c.requires.loads.short, c.requires.order.slot, c.requires.order.table, c.requires.order.row)) c.requires.loads.code_in c.requires.loads.code_is in
     let t = piece_of c.in-Some.name in
     let f = c.in-Some.ensures line (plain it) v in
     let p = lies line t (use_in (record { start = 0; bytes = line }) t (plain_use it t f.0)) in
@@ -47,5 +45,5 @@ pub returns-in-None : goal.returns-in-None
 returns-in-None c =
     let line = line_of c.args.words.now c.args.line in
     let it = item_in line in
-    let v = c.item-of.ensures (plain it) (omega (arith, c.requires.loads.short, c.requires.order.slot, c.requires.order.table, c.requires.order.row)) c.requires.loads.code_in c.requires.loads.code-is in
+    let v = c.item_of.ensures (plain it) (omega (arith, c.requires.loads.short, c.requires.order.slot, c.requires.order.table, c.requires.order.row)) c.requires.loads.code_in c.requires.loads.code_is in
     sym (plain_uses it) ∙ c.in-None.ensures line (plain it) v
