@@ -1,18 +1,18 @@
 -- A key that is to be brought, and an answer that comes back to a frame that looks, against the machine.
-use Rattle.std.proofs.Common.{◌≡◌, ℕ, ◌+◌, ◌-◌, ◌<◌, ◌≤◌, Bool, true, false, List, [], ◌∷◌, ◌++◌, length, take, drop, Some, None, Option as Perhaps, sym, refl, ap, ◌∙◌, subst, append-nil, arith, length-drop}
+use Rattle.std.proofs.Common.{◌≡◌, ℕ, ◌+◌, ◌-◌, ◌≤◌, Bool, true, false, List, [], ◌∷◌, length, take, drop, Some, None, Option as Perhaps, sym, refl, ap, ◌∙◌, subst, append-nil, arith}
 use mathlib.Core.Option.{some, none}
 use Rattle.std.proofs.lemmas.List.{drop-drop, length-take-le}
 use Rattle.base.specs.Base.{pick, same}
 use Rattle.engine.specs.declared.key.Key.{Key}
 use Rattle.engine.specs.Engine.{Ans, Got, Entry, Kept, find}
-use Rattle.engine.specs.Machine.{Frame, looks, State, back, tell, look, called, backed}
+use Rattle.engine.specs.Machine.{Frame, looks, back, tell, look, called, backed}
 use Rattle.memo.specs.Record.{deep}
 use Rattle.memo.specs.Log.{kept_entries, entry_at}
 use Rattle.driver.specs.declared.state.At.{At}
 use Rattle.driver.specs.declared.state.Now.TheVariants.{Back, Tell}
-use Rattle.driver.specs.Rows.{key_words, look_words, Stack, Telling, Looking}
+use Rattle.driver.specs.Rows.{key_words, look_words, Stack, Telling}
 use Rattle.driver.specs.Says.{memo_in, Heads, CompareSays}
-use Rattle.driver.specs.Doing.{Doing, Area, LookSays, CallSays, BackSays}
+use Rattle.driver.specs.Doing.{Doing, LookSays, CallSays, BackSays}
 
 pub telling_none : (ms w us : List ℕ) (r : ℕ) (st : List Frame) → r ≤ length w → Stack ms (take r w) us st → Telling ms (take r w) us r [] st
 telling_none ms w us r st h s = record { vs = take r w; us = us; from = length-take-le r w h; row1 = sym (append-nil (take r w)); keys1 = refl; below = s }

@@ -1,13 +1,12 @@
 -- Words lent to an input or to a rule: what stands in the row then.
-use Rattle.std.proofs.Common.{◌≡◌, ℕ, ◌+◌, ◌-◌, ◌*◌, ◌<◌, ◌≤◌, List, [], ◌∷◌, ◌++◌, length, take, drop, sym, refl, ap, ◌∙◌, subst, arith, length-append, length-drop}
+use Rattle.std.proofs.Common.{◌≡◌, ℕ, ◌+◌, ◌-◌, ◌≤◌, List, ◌++◌, length, take, drop, sym, ap, ◌∙◌, subst, arith, length-append, length-drop}
 use borrow.Rule.Slice.PartMut.{put_mid, mid_of, same_len_mid}
 use Rattle.std.proofs.lemmas.List.{drop-drop, drop_at, take-take, take-append-le, drop-append-le, length-take-le}
 use Rattle.std.proofs.lemmas.Slice.{take-put_mid_below, drop-put_mid}
-use Rattle.engine.specs.declared.key.Key.{Key}
 use Rattle.engine.specs.declared.rules.Turn.{Turn}
 use Rattle.engine.specs.declared.rules.Turn.TheVariants.{Ask, Done, Narrow}
 use Rattle.engine.specs.Engine.{Ans, Then, done, Kept}
-use Rattle.engine.specs.Says.{GoSays, answer_long}
+use Rattle.engine.specs.Says.{GoSays}
 use Rattle.engine.specs.Machine.{Frame, back}
 use Rattle.memo.specs.Record.{deep}
 use Rattle.memo.specs.Log.{kept_entries}

@@ -1,5 +1,5 @@
 -- The work area as a part of the row: what a write into it leaves, and what stays of the memo and of the work area.
-use Rattle.std.proofs.Common.{◌≡◌, ℕ, zero, suc, ◌+◌, ◌-◌, ◌<◌, ◌≤◌, List, [], ◌∷◌, ◌++◌, length, take, drop, sym, refl, ap, ◌∙◌, subst, append-nil, arith, length-drop}
+use Rattle.std.proofs.Common.{◌≡◌, ℕ, zero, suc, ◌+◌, ◌-◌, ◌≤◌, List, [], ◌∷◌, ◌++◌, length, take, drop, sym, ap, ◌∙◌, subst, append-nil, arith, length-append, length-drop}
 use borrow.Rule.Slice.PartMut.{put_mid}
 use Rattle.std.proofs.lemmas.List.{drop-take, drop-drop, drop_at, drop_all, take_at, take-take, take_rest, take-append-drop, length-take-le}
 use Rattle.memo.specs.Record.{deep}
@@ -69,3 +69,28 @@ take_short zero [] = omega arith
 take_short zero (x ∷ xs) = omega arith
 take_short (suc n) [] = omega arith
 take_short (suc n) (x ∷ xs) = let r = take_short n xs in omega arith
+
+-- the memo was lent, and is v now
+pub record LentMemo (known memo : ℕ) (ws vs v : List ℕ) : Type 0 where
+  pub memo1 : memo_in known memo vs ≡ v
+  pub before : take known vs ≡ take known ws
+  pub work : drop memo vs ≡ drop memo ws
+  pub long : length vs ≡ length ws
+
+pub lent_memo : (known memo : ℕ) (ws v : List ℕ) → length v ≡ memo - known → known ≤ memo → memo ≤ length ws → LentMemo known memo ws (put_mid known (memo - known) ws v) v
+lent_memo known memo ws v l h k =
+    let n = memo - known in
+    let rest = drop n (drop known ws) in
+    let t = length-take-le known ws (omega arith) in
+    let a = length-append (take known ws) (v ++ rest) in
+    let b = length-append v rest in
+    let d1 = length-drop known ws in
+    let d2 = length-drop n (drop known ws) in
+    let e : drop known (put_mid known n ws v) ≡ v ++ rest = drop_at (take known ws) (v ++ rest) known t in
+    let z : memo ≡ known + n = omega arith in
+    record {
+      memo1 = ap (take n) e ∙ take_at v rest n l;
+      before = take_at (take known ws) (v ++ rest) known t;
+      work = ap (λ j. drop j (put_mid known n ws v)) z ∙ sym (drop-drop n known (put_mid known n ws v)) ∙ ap (drop n) e ∙ drop_at v rest n l ∙ drop-drop n known ws ∙ ap (λ j. drop j ws) (sym z);
+      long = omega (arith, t, a, b, d1, d2, l, h, k);
+    }

@@ -12,3 +12,9 @@ pub mod Tells
 pub mod Hands
 pub mod Rules
 pub mod Returns
+pub mod Decode
+pub mod Moves
+pub mod Rooms
+pub mod Going
+pub mod Restores
+pub mod Regions

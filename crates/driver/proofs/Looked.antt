@@ -1,15 +1,14 @@
 -- An entry looked at: its next question is brought, or its answer stands.
-use Rattle.std.proofs.Common.{◌≡◌, ℕ, ◌+◌, ◌-◌, ◌<◌, ◌≤◌, List, [], ◌∷◌, ◌++◌, length, take, drop, sym, refl, ap, ◌∙◌, subst, arith, length-drop}
-use Rattle.std.proofs.lemmas.List.{drop-drop, drop_all}
+use Rattle.std.proofs.Common.{◌≡◌, ℕ, ◌+◌, ◌≤◌, List, [], ◌∷◌, length, take, drop, sym, ap, ◌∙◌, subst, arith}
+use Rattle.std.proofs.lemmas.List.{drop_all}
 use Rattle.engine.specs.declared.key.Key.{Key}
 use Rattle.engine.specs.Engine.{Ans, Got, Entry, Kept}
-use Rattle.engine.specs.Machine.{Frame, looks, State, look}
+use Rattle.engine.specs.Machine.{Frame, look}
 use Rattle.memo.specs.Record.{deep}
 use Rattle.memo.specs.Log.{kept_entries, entry_at}
 use Rattle.memo.specs.Says.{Looks, GotSays}
 use Rattle.driver.specs.declared.state.Now.TheVariants.{Call, Back}
-use Rattle.driver.specs.Rows.{look_words, Stack, Looking}
-use Rattle.driver.specs.Says.{memo_in}
+use Rattle.driver.specs.Rows.{look_words, Stack}
 use Rattle.driver.specs.Doing.{Doing}
 
 -- the next question is brought

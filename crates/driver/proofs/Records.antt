@@ -1,5 +1,5 @@
 -- A record written within one row: its keys in order, and its four parts one after the other.
-use Rattle.std.proofs.Common.{◌≡◌, ℕ, zero, suc, ◌+◌, ◌-◌, ◌*◌, ◌<◌, ◌≤◌, List, [], ◌∷◌, ◌++◌, length, get_or, take, drop, sym, refl, ap, ◌∙◌, subst, arith, length-drop}
+use Rattle.std.proofs.Common.{◌≡◌, ℕ, ◌+◌, ◌-◌, ◌*◌, ◌<◌, ◌≤◌, List, [], ◌∷◌, ◌++◌, length, take, drop, sym, refl, ap, ◌∙◌, arith, length-drop}
 use lib.Seq.{paste}
 use Rattle.std.proofs.lemmas.List.{drop-drop, length-take-le, take_all, take-append-drop}
 use Rattle.engine.specs.declared.key.Key.{Key}

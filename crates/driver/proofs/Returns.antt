@@ -1,5 +1,5 @@
 -- An answer that comes back to the newest frame, of either sort.
-use Rattle.std.proofs.Common.{◌≡◌, ℕ, ◌+◌, ◌-◌, ◌<◌, ◌≤◌, List, [], ◌∷◌, length, take, drop, Some, None, Option as Perhaps, sym, refl, ap, ◌∙◌, subst, arith, length-drop}
+use Rattle.std.proofs.Common.{◌≡◌, ℕ, ◌+◌, ◌<◌, ◌≤◌, List, ◌∷◌, length, drop, Some, None, Option as Perhaps, sym, ap, ◌∙◌, subst, arith, length-drop}
 use Rattle.engine.specs.declared.key.Key.{Key}
 use Rattle.engine.specs.Engine.{Ans, Got, Entry, Kept}
 use Rattle.engine.specs.Machine.{Frame, looks, works, back, backed}

@@ -1,21 +1,21 @@
 -- A rule is told, and asks or is done, against the machine.
-use Rattle.std.proofs.Common.{◌≡◌, ℕ, ◌+◌, ◌-◌, ◌*◌, ◌<◌, ◌≤◌, ◌⊎◌, List, length, take, drop, Some, None, Option as Perhaps, sym, refl, ap, ◌∙◌, subst, inl, inr, arith, length-drop}
+use Rattle.std.proofs.Common.{◌≡◌, ℕ, ◌+◌, ◌-◌, ◌*◌, ◌<◌, ◌≤◌, List, length, take, drop, Some, None, Option as Perhaps, sym, refl, ap, ◌∙◌, subst, inl, inr, arith, length-drop}
 use Rattle.std.proofs.lemmas.List.{length-take-le}
 use Rattle.engine.specs.declared.key.Key.{Key}
 use Rattle.engine.specs.declared.rules.Turn.{Turn}
 use Rattle.engine.specs.declared.rules.Turn.TheVariants.{Ask, Done, Narrow}
-use Rattle.engine.specs.Engine.{Ans, Then, ask, done, Rules, Got, Kept, answers}
-use Rattle.engine.specs.Says.{row, answer_long}
+use Rattle.engine.specs.Engine.{Then, ask, Rules, Got, Kept, answers}
+use Rattle.engine.specs.Says.{row}
 use Rattle.engine.specs.Machine.{Frame, tell, told}
 use Rattle.memo.specs.Record.{deep, made, entry_long}
-use Rattle.memo.specs.Log.{Fits, kept_entries, spare}
+use Rattle.memo.specs.Log.{Fits, spare}
 use Rattle.memo.specs.Says.{Keeps}
 use Rattle.memo.proofs.Appends.{keeps_self}
 use Rattle.driver.specs.declared.state.At.{At}
 use Rattle.driver.specs.declared.state.Now.TheVariants.{Tell}
 use Rattle.driver.specs.Rows.{Telling}
 use Rattle.driver.specs.Says.{memo_in}
-use Rattle.driver.specs.Doing.{Doing, Area, Grown, AskSays, DoneSays, RuleSays, TellSays, Short, answer_of}
+use Rattle.driver.specs.Doing.{Doing, Area, Grown, AskSays, DoneSays, RuleSays, TellSays, Short, stored_long}
 use Rattle.driver.proofs.Lent.{same_memo, area_on, same_rows, same_frames, shorter}
 use Rattle.driver.proofs.Tells.{words_of}
 
@@ -59,18 +59,21 @@ module _ (b : Rules) (known memo r f : ℕ) (k : Key) (n from : ℕ) (ws us : Li
   pub rule_asks : (q : Key) → Says1 (Ask q) → (vs : List ℕ) (t : Perhaps At) → AskSays known memo r f k n from q us vs t → TellSays b known memo r f k n from ws vs t
   rule_asks q s vs (Some t) x = λ m gs st d.
       let e : b.next k (answers gs) ≡ ask q = s gs (sym d.1) (row_there m gs st d) in
-      (x.0, grown_same vs x.1, subst (λ y. Doing (memo_in known memo vs) (drop memo vs) t.rows t.frames t.now (told m k gs st y)) (sym e) (x.2 m gs st (moved m gs st d)))
+      (x.0, grown_same vs x.1, subst (λ y. Doing (memo_in known memo vs) (drop memo vs) t.rows t.frames t.now (told m k gs st y)) (sym e) (x.2 m gs st (moved m gs st d)), as_much vs x.1 gs (b.next k (answers gs)) e)
+    where
+      as_much : (vs : List ℕ) → take memo vs ≡ take memo us → (gs : List Got) (t : Then) → t ≡ ask q → spare ms ≡ stored_long k gs t + spare (memo_in known memo vs)
+      as_much vs e gs t p = let a = ap (stored_long k gs) p in let c = ap spare (same_memo known memo us vs area.low e ∙ memos) in omega (arith, a, c)
   rule_asks q s vs None x = λ m gs st d. let y = x.1 in (grown_same vs x.0, inl (omega arith))
 
   pub rule_done : (len : ℕ) → Says1 (Done len) → (vs : List ℕ) (t : Perhaps At) → DoneSays known memo r f k n from len us vs t → TellSays b known memo r f k n from ws vs t
   rule_done len s vs (Some t) x = λ m gs st d.
       let e = (s gs (sym d.1) (row_there m gs st d)).0 in
       let y = x m gs st (moved m gs st d) in
-      (y.0, grown vs y.1, subst (λ z. Doing (memo_in known memo vs) (drop memo vs) t.rows t.frames t.now (told m k gs st z)) (sym e) y.2)
+      (y.0, grown vs y.1, subst (λ z. Doing (memo_in known memo vs) (drop memo vs) t.rows t.frames t.now (told m k gs st z)) (sym e) y.2, subst (λ z. spare ms ≡ stored_long k gs z + spare (memo_in known memo vs)) (sym e) (subst (λ q. spare q ≡ entry_long (made k (take len (drop (memo + r) us)) gs) + spare (memo_in known memo vs)) memos y.3))
   rule_done len s vs None x = λ m gs st d.
       let z = s gs (sym d.1) (row_there m gs st d) in
       let y = x m gs st (moved m gs st d) in
-      (grown vs y.0, subst (λ th. Short known memo r f k from gs th ws) (sym z.0) (elim y.1 [ inl p ↦ inr (subst (λ q. spare q < entry_long (made k (take len (drop (memo + r) us)) gs)) memos p) | inr p ↦ inl (near z.1 p) ]))
+      (grown vs y.0, subst (λ th. Short known memo r f k from gs th ws) (sym z.0) (elim y.1 [ inl p ↦ inr (take len (drop (memo + r) us), refl, subst (λ q. spare q < entry_long (made k (take len (drop (memo + r) us)) gs)) memos p) | inr p ↦ inl (near z.1 p) ]))
     where
       near : memo + (r + (len + f)) ≤ length ws → length us < memo + (from + (1 + (len + f))) → length ws < memo + (r + f) + (4096 + 256 * (r - from + length (take len (drop (memo + r) us))))
       near h p = let d = length-drop (memo + r) us in let l = length-take-le len (drop (memo + r) us) (omega arith) in omega arith

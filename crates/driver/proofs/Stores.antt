@@ -1,17 +1,17 @@
 -- An entry stored in the memo, in the whole row: what the memo is then is what it is where the entry is stored in it alone.
-use Rattle.std.proofs.Common.{◌≡◌, ℕ, zero, suc, ◌+◌, ◌-◌, ◌*◌, ◌<◌, ◌≤◌, true, false, List, [], ◌∷◌, ◌++◌, length, get_or, take, drop, set, sym, refl, ap, ◌∙◌, subst, arith, length-drop, length-set}
+use Rattle.std.proofs.Common.{◌≡◌, ℕ, suc, ◌+◌, ◌-◌, ◌*◌, ◌<◌, ◌≤◌, true, false, List, [], ◌∷◌, ◌++◌, length, get_or, take, drop, set, sym, refl, ap, ◌∙◌, subst, arith, length-drop}
 use lib.Seq.{take-set-lt}
 use Rattle.std.proofs.lemmas.List.{drop-drop, drop-take, drop-append-le, drop-set-add, drop-set-lt, take-set-le, length-take-le, take-take}
 use Rattle.engine.specs.declared.key.Key.{Key}
 use Rattle.engine.specs.Engine.{Ans, Got, answers}
 use Rattle.engine.specs.Says.{row}
-use Rattle.memo.specs.Record.{puts, packed, made, gots_of}
+use Rattle.memo.specs.Record.{puts, packed, made, gots_of, row_long}
 use Rattle.memo.specs.Log.{bucket, Fits, pointed}
 use Rattle.memo.specs.Rows.{keys}
 use Rattle.memo.specs.Says.{Keeps, StoreSays}
 use Rattle.memo.proofs.Rows.{gots_are, keys_long, row_whole}
 use Rattle.memo.proofs.Packs.{packed_long}
-use Rattle.memo.proofs.Puts.{length_puts, take_puts}
+use Rattle.memo.proofs.Puts.{take_puts}
 use Rattle.memo.proofs.Appends.{append_fits, append_says, append_keeps, refused, keeps_self}
 use Rattle.driver.specs.Says.{memo_in, StoredIn}
 use Rattle.driver.proofs.Words.{drop_past}
@@ -33,7 +33,7 @@ take_puts_in i xs ws m h k =
     short : (i m : ℕ) (ws : List ℕ) → i ≤ m → take i (take m ws) ≡ take i ws
     short i m ws h = take-take i m ws h
 
-drop_puts_in : (i : ℕ) (xs ws : List ℕ) (k : ℕ) → k ≤ i → i + length xs ≤ length ws → drop k (puts i xs ws) ≡ puts (i - k) xs (drop k ws)
+pub drop_puts_in : (i : ℕ) (xs ws : List ℕ) (k : ℕ) → k ≤ i → i + length xs ≤ length ws → drop k (puts i xs ws) ≡ puts (i - k) xs (drop k ws)
 drop_puts_in i xs ws k h r =
     let l = length-take-le i ws (omega arith) in
     let n = i + length xs in
@@ -72,32 +72,24 @@ module _ (known memo b h d n : ℕ) (ws vs : List ℕ) (e : vs ≡ set (set (set
       let y = set x (known + 0) d in
       ap (drop memo) e ∙ drop-set-lt memo y (known + 1) n (omega arith) ∙ drop-set-lt memo x (known + 0) d (omega arith) ∙ drop-set-lt memo ws (known + (3 + b)) h (omega arith)
 
-module _ (known memo : ℕ) (ws : List ℕ) (low : known ≤ memo) (high : memo ≤ length ws) (f : Fits (memo_in known memo ws)) (k : Key) (ans : Ans) (gs : List Got) where
+-- a record put in front of the log, from its parts
+module _ (known memo : ℕ) (ws : List ℕ) (low : known ≤ memo) (high : memo ≤ length ws) (f : Fits (memo_in known memo ws)) (k : Key) (ans : Ans) (count : ℕ) (ks rs : List ℕ) (kl : length ks ≡ 3 * count) (rl : row_long count rs ≡ length rs) where
   abbrev ms : List ℕ
   ms = memo_in known memo ws
 
   abbrev long : ℕ
-  long = 7 + (length ans + (length (keys gs) + length (row (answers gs))))
+  long = 7 + (length ans + (length ks + length rs))
 
-  pub store_refused : length ms - (3 + get_or ms 2 0 + get_or ms 0 0) < long → StoredIn known memo (made k ans gs) ws ws false
-  store_refused h =
-      record {
-        fits = f;
-        says = subst (λ q. StoreSays (made k ans q) ms ms false) (gots_are gs) (refused ms k ans (length gs) (keys gs) (row (answers gs)) (keys_long gs) (row_whole gs) h);
-        keeps = keeps_self ms;
-        before = refl;
-        behind = refl;
-      }
+  pub put_refused : length ms - (3 + get_or ms 2 0 + get_or ms 0 0) < long → StoredIn known memo (made k ans (gots_of count ks rs)) ws ws false
+  put_refused h = record { fits = f; says = refused ms k ans count ks rs kl rl h; keeps = keeps_self ms; before = refl; behind = refl }
 
-  pub store_done : (b : ℕ) → b ≡ bucket k (get_or ms 2 0) → b < get_or ms 2 0 → long ≤ length ms - (3 + get_or ms 2 0 + get_or ms 0 0)
-      → (us vs : List ℕ) (p : ℕ) → p ≡ memo - get_or ms 0 0 - long → us ≡ puts p (packed k (get_or ms (3 + b) 0) ans (length gs) (keys gs) (row (answers gs))) ws
+  pub put_done : (b : ℕ) → b ≡ bucket k (get_or ms 2 0) → b < get_or ms 2 0 → long ≤ length ms - (3 + get_or ms 2 0 + get_or ms 0 0)
+      → (us vs : List ℕ) (p : ℕ) → p ≡ memo - get_or ms 0 0 - long → us ≡ puts p (packed k (get_or ms (3 + b) 0) ans count ks rs) ws
       → vs ≡ set (set (set us (known + (3 + b)) (get_or ms 0 0 + long)) (known + 0) (get_or ms 0 0 + long)) (known + 1) (get_or ms 1 0 + 1)
-      → StoredIn known memo (made k ans gs) ws vs true
-  store_done b eb bl fit us vs p ep eu ev =
-      let part = packed k (get_or ms (3 + b) 0) ans (length gs) (keys gs) (row (answers gs)) in
-      let kl = keys_long gs in
-      let rl = row_whole gs in
-      let pl = packed_long k (get_or ms (3 + b) 0) ans (length gs) (keys gs) (row (answers gs)) [] kl rl in
+      → StoredIn known memo (made k ans (gots_of count ks rs)) ws vs true
+  put_done b eb bl fit us vs p ep eu ev =
+      let part = packed k (get_or ms (3 + b) 0) ans count ks rs in
+      let pl = packed_long k (get_or ms (3 + b) 0) ans count ks rs [] kl rl in
       let ml = memo_long ws known memo low high in
       let room = f.room in
       let z : p - known ≡ length ms - get_or ms 0 0 - long = omega arith in
@@ -105,9 +97,26 @@ module _ (known memo : ℕ) (ws : List ℕ) (low : known ≤ memo) (high : memo 
       let mu : memo_in known memo us ≡ puts (length ms - get_or ms 0 0 - long) part ms = ap (memo_in known memo) eu ∙ memo_puts known memo p part ws (omega arith) (omega arith) high ∙ ap (λ j. puts j part ms) z in
       let mv = memo_pointed known memo b d d (get_or ms 1 0 + 1) us vs ev (omega arith) ∙ ap (λ q. pointed q b d d (get_or ms 1 0 + 1)) mu in
       record {
-        fits = subst Fits (sym mv) (append_fits ms f k ans (length gs) (keys gs) (row (answers gs)) kl rl b eb fit);
-        says = subst (λ v. StoreSays (made k ans gs) ms v true) (sym mv) (subst (λ q. StoreSays (made k ans q) ms (pointed (puts (length ms - get_or ms 0 0 - long) part ms) b d d (get_or ms 1 0 + 1)) true) (gots_are gs) (append_says ms f k ans (length gs) (keys gs) (row (answers gs)) kl rl b eb fit));
-        keeps = subst (Keeps ms) (sym mv) (append_keeps ms f k ans (length gs) (keys gs) (row (answers gs)) kl rl b eb fit);
+        fits = subst Fits (sym mv) (append_fits ms f k ans count ks rs kl rl b eb fit);
+        says = subst (λ v. StoreSays (made k ans (gots_of count ks rs)) ms v true) (sym mv) (append_says ms f k ans count ks rs kl rl b eb fit);
+        keeps = subst (Keeps ms) (sym mv) (append_keeps ms f k ans count ks rs kl rl b eb fit);
         before = pointed_before known memo b d d (get_or ms 1 0 + 1) us vs ev (omega arith) ∙ ap (take known) eu ∙ take_puts p part ws known (omega arith) (omega arith);
         behind = pointed_behind known memo b d d (get_or ms 1 0 + 1) us vs ev (omega arith) ∙ ap (drop memo) eu ∙ drop_past p part ws memo (omega arith) (omega arith);
       }
+
+-- an entry of a rule that is done
+module _ (known memo : ℕ) (ws : List ℕ) (low : known ≤ memo) (high : memo ≤ length ws) (f : Fits (memo_in known memo ws)) (k : Key) (ans : Ans) (gs : List Got) where
+  abbrev ns : List ℕ
+  ns = memo_in known memo ws
+
+  abbrev size1 : ℕ
+  size1 = 7 + (length ans + (length (keys gs) + length (row (answers gs))))
+
+  pub store_refused : length ns - (3 + get_or ns 2 0 + get_or ns 0 0) < size1 → StoredIn known memo (made k ans gs) ws ws false
+  store_refused h = subst (λ q. StoredIn known memo (made k ans q) ws ws false) (gots_are gs) (put_refused known memo ws low high f k ans (length gs) (keys gs) (row (answers gs)) (keys_long gs) (row_whole gs) h)
+
+  pub store_done : (b : ℕ) → b ≡ bucket k (get_or ns 2 0) → b < get_or ns 2 0 → size1 ≤ length ns - (3 + get_or ns 2 0 + get_or ns 0 0)
+      → (us vs : List ℕ) (p : ℕ) → p ≡ memo - get_or ns 0 0 - size1 → us ≡ puts p (packed k (get_or ns (3 + b) 0) ans (length gs) (keys gs) (row (answers gs))) ws
+      → vs ≡ set (set (set us (known + (3 + b)) (get_or ns 0 0 + size1)) (known + 0) (get_or ns 0 0 + size1)) (known + 1) (get_or ns 1 0 + 1)
+      → StoredIn known memo (made k ans gs) ws vs true
+  store_done b eb bl fit us vs p ep eu ev = subst (λ q. StoredIn known memo (made k ans q) ws vs true) (gots_are gs) (put_done known memo ws low high f k ans (length gs) (keys gs) (row (answers gs)) (keys_long gs) (row_whole gs) b eb bl fit us vs p ep eu ev)

@@ -1,15 +1,15 @@
 -- A rule that asks, and a rule that is done, against the machine.
-use Rattle.std.proofs.Common.{◌≡◌, ℕ, ◌+◌, ◌-◌, ◌*◌, ◌<◌, ◌≤◌, Bool, true, false, ◌⊎◌, List, [], ◌∷◌, ◌++◌, length, take, drop, sym, refl, ap, ◌∙◌, subst, inl, inr, arith, length-drop}
+use Rattle.std.proofs.Common.{◌≡◌, ℕ, ◌+◌, ◌-◌, ◌*◌, ◌<◌, ◌≤◌, Bool, true, false, ◌⊎◌, List, [], ◌∷◌, length, take, drop, sym, refl, ap, ◌∙◌, subst, inl, arith, length-drop}
 use Rattle.std.proofs.lemmas.List.{drop-drop, drop-take, drop_at, take_at, take-take, length-take-le}
 use Rattle.engine.specs.declared.key.Key.{Key}
-use Rattle.engine.specs.Engine.{Ans, ask, done, Got, Entry, Kept, answers, store}
+use Rattle.engine.specs.Engine.{Ans, ask, done, Got, Kept, answers, store}
 use Rattle.engine.specs.Says.{row}
-use Rattle.engine.specs.Machine.{Frame, looks, works, State, tell, told}
+use Rattle.engine.specs.Machine.{Frame, looks, works, tell, told}
 use Rattle.memo.specs.Record.{deep, made, entry_long}
-use Rattle.memo.specs.Log.{Fits, kept_entries, entry_at, spare}
-use Rattle.memo.specs.Says.{Keeps, StoreSays}
+use Rattle.memo.specs.Log.{kept_entries, spare}
+use Rattle.memo.specs.Says.{Keeps}
 use Rattle.driver.specs.declared.state.Now.TheVariants.{Call, Back, Tell}
-use Rattle.driver.specs.Rows.{stacked, work_words, Stack, Telling, Looking, Working}
+use Rattle.driver.specs.Rows.{stacked, work_words, Stack, Telling}
 use Rattle.driver.specs.Says.{memo_in, StoredIn}
 use Rattle.driver.specs.Doing.{Doing, Area, Grown}
 use Rattle.driver.proofs.Asked.{stacked_drop}
@@ -77,7 +77,7 @@ module _ (known memo r f : ℕ) (k : Key) (n from len : ℕ) (ws v1 : List ℕ) 
       → (w1 v vs : List ℕ) → w1 ≡ drop memo v1 → Lent memo v1 vs v
       → take len (drop (from + 1) v) ≡ take len (drop r w1) → take (from + 1) v ≡ take (from + 1) w1 → deep (f - 3 * n) v ≡ deep (f - 3 * n) w1
       → (m : Kept) (gs : List Got) (st : List Frame) → Doing (memo_in known memo ws) (drop memo ws) r f (Tell k n from) (tell m k gs st)
-      → Area vs known memo from (f - 3 * n) × Grown known memo ws vs × Doing (memo_in known memo vs) (drop memo vs) from (f - 3 * n) (Back len) (told m k gs st (done ans))
+      → Area vs known memo from (f - 3 * n) × Grown known memo ws vs × Doing (memo_in known memo vs) (drop memo vs) from (f - 3 * n) (Back len) (told m k gs st (done ans)) × (spare (memo_in known memo ws) ≡ entry_long (made k ans gs) + spare (memo_in known memo vs))
   done_turn false e s fit w1 v vs ew l is below above m gs st d = let z : ◌≡◌ {A = ℕ} 0 1 = cc in absurd (omega arith)
   done_turn true e s fit w1 v vs ew l is below above m gs st d =
       let ms = memo_in known memo ws in
@@ -105,4 +105,5 @@ module _ (known memo r f : ℕ) (k : Key) (n from len : ℕ) (ws v1 : List ℕ) 
           ap (store (made k ans gs)) d.2 ∙ sym x.says.0 ∙ ap kept_entries (sym en),
           subst (λ q. Stack (memo_in known memo vs) (take from (drop memo vs)) q st) (sym frames) (subst (λ q. Stack (memo_in known memo vs) q t.us st) (sym rows) (stack_keeps ms (memo_in known memo vs) kp st t.vs t.us t.below)),
         ),
+        x.says.1 ∙ ap (λ q. entry_long (made k ans gs) + spare q) (sym en),
       )

@@ -1,12 +1,12 @@
 -- Turns in words: each is the machine's.
-use Rattle.std.proofs.Common.{◌≡◌, ℕ, zero, suc, ◌+◌, ◌-◌, ◌*◌, ◌<◌, ◌≤◌, List, [], ◌∷◌, ◌++◌, length, get_or, take, drop, sym, refl, ap, ◌∙◌, subst, append_assoc, arith, length-append}
+use Rattle.std.proofs.Common.{◌≡◌, ℕ, ◌+◌, ◌-◌, List, [], ◌∷◌, ◌++◌, length, take, drop, sym, ap, ◌∙◌, append_assoc, arith, length-append}
 use Rattle.engine.specs.declared.key.Key.{Key}
-use Rattle.engine.specs.Engine.{Ans, Got, Entry, Kept, answers}
+use Rattle.engine.specs.Engine.{Ans, Got, Kept, answers}
 use Rattle.engine.specs.Says.{row}
-use Rattle.engine.specs.Machine.{Frame, looks, works, State, call, back, tell, got, backed}
+use Rattle.engine.specs.Machine.{Frame, works, back, got, backed}
 use Rattle.memo.specs.Record.{deep}
-use Rattle.driver.specs.declared.state.Now.TheVariants.{Call, Back, Tell}
-use Rattle.driver.specs.Rows.{key_words, stacked, work_words, look_words, Stack, Telling, Working, Looking}
+use Rattle.driver.specs.declared.state.Now.TheVariants.{Back, Tell}
+use Rattle.driver.specs.Rows.{key_words, stacked, work_words}
 use Rattle.driver.specs.Says.{Heads}
 use Rattle.driver.specs.Doing.{Doing}
 use Rattle.driver.proofs.Asked.{stacked_append, row_append}

@@ -1,11 +1,9 @@
 -- Words written into a row: what stands there then, and what is before and behind.
-use Rattle.std.proofs.Common.{◌≡◌, ℕ, zero, suc, ◌+◌, ◌-◌, ◌*◌, ◌<◌, ◌≤◌, List, [], ◌∷◌, ◌++◌, length, get_or, take, drop, set, sym, refl, ap, ◌∙◌, subst, append_assoc, arith, length-drop, length-set}
+use Rattle.std.proofs.Common.{◌≡◌, ℕ, suc, ◌+◌, ◌-◌, ◌<◌, ◌≤◌, List, ◌∷◌, ◌++◌, length, get_or, take, drop, set, sym, refl, ap, ◌∙◌, append_assoc, arith, length-drop, length-set}
 use lib.Seq.{paste}
 use Rattle.std.proofs.lemmas.List.{drop_more, drop-set, drop-set-lt, drop-take, take-set, take_at, take-take, take-append-drop, length-take-le, drop-drop, drop_at}
 use Rattle.memo.specs.Record.{deep, puts}
 use Rattle.memo.proofs.Puts.{length_puts, take_puts, drop_puts}
-use Rattle.engine.specs.declared.key.Key.{Key}
-use Rattle.driver.specs.Rows.{key_words}
 use Rattle.driver.specs.Says.{Pushed, Heads}
 
 pub pushed : (f : ℕ) (xs ws vs : List ℕ) → vs ≡ puts (length ws - f - length xs) xs ws → f + length xs ≤ length ws → Pushed f xs ws vs

@@ -67,7 +67,7 @@ pub record Grown (known memo : ℕ) (ws vs : List ℕ) : Type 0 where
 -- or to work in
 abbrev pub DoneSays : ℕ → ℕ → ℕ → ℕ → Key → ℕ → ℕ → ℕ → List ℕ → List ℕ → Perhaps At → Type 0
 DoneSays known memo r f k n from len ws vs (Some t) = (m : Kept) (gs : List Got) (st : List Frame) → Doing (memo_in known memo ws) (drop memo ws) r f (Tell k n from) (tell m k gs st) →
-    Area vs known memo t.rows t.frames × Grown known memo ws vs × Doing (memo_in known memo vs) (drop memo vs) t.rows t.frames t.now (told m k gs st (done (take len (drop (memo + r) ws))))
+    Area vs known memo t.rows t.frames × Grown known memo ws vs × Doing (memo_in known memo vs) (drop memo vs) t.rows t.frames t.now (told m k gs st (done (take len (drop (memo + r) ws)))) × (spare (memo_in known memo ws) ≡ entry_long (made k (take len (drop (memo + r) ws)) gs) + spare (memo_in known memo vs))
 DoneSays known memo r f k n from len ws vs None = (m : Kept) (gs : List Got) (st : List Frame) → Doing (memo_in known memo ws) (drop memo ws) r f (Tell k n from) (tell m k gs st) →
     Grown known memo ws vs × ((spare (memo_in known memo ws) < entry_long (made k (take len (drop (memo + r) ws)) gs)) ⊎ (length ws < memo + (from + (1 + (len + f)))))
 
@@ -87,13 +87,18 @@ abbrev pub answer_of : Then → Ans
 answer_of (ask k) = []
 answer_of (done a) = a
 
+-- how many words a rule that does t next puts into the memo
+abbrev pub stored_long : Key → List Got → Then → ℕ
+stored_long k gs (ask q) = 0
+stored_long k gs (done a) = entry_long (made k a gs)
+
 -- the rule of k is told what it got: where the machine stands then; or there was too little room, by what the rule does next
 abbrev pub Short : ℕ → ℕ → ℕ → ℕ → Key → ℕ → List Got → Then → List ℕ → Type 0
-Short known memo r f k from gs t ws = (length ws < memo + (r + f) + (4096 + 256 * (r - from + answer_long t))) ⊎ (spare (memo_in known memo ws) < entry_long (made k (answer_of t) gs))
+Short known memo r f k from gs t ws = (length ws < memo + (r + f) + (4096 + 256 * (r - from + answer_long t))) ⊎ ((a : Ans) × (t ≡ done a) × (spare (memo_in known memo ws) < entry_long (made k a gs)))
 
 abbrev pub TellSays : Rules → ℕ → ℕ → ℕ → ℕ → Key → ℕ → ℕ → List ℕ → List ℕ → Perhaps At → Type 0
 TellSays b known memo r f k n from ws vs (Some t) = (m : Kept) (gs : List Got) (st : List Frame) → Doing (memo_in known memo ws) (drop memo ws) r f (Tell k n from) (tell m k gs st) →
-    Area vs known memo t.rows t.frames × Grown known memo ws vs × Doing (memo_in known memo vs) (drop memo vs) t.rows t.frames t.now (told m k gs st (b.next k (answers gs)))
+    Area vs known memo t.rows t.frames × Grown known memo ws vs × Doing (memo_in known memo vs) (drop memo vs) t.rows t.frames t.now (told m k gs st (b.next k (answers gs))) × (spare (memo_in known memo ws) ≡ stored_long k gs (b.next k (answers gs)) + spare (memo_in known memo vs))
 TellSays b known memo r f k n from ws vs None = (m : Kept) (gs : List Got) (st : List Frame) → Doing (memo_in known memo ws) (drop memo ws) r f (Tell k n from) (tell m k gs st) → Grown known memo ws vs × Short known memo r f k from gs (b.next k (answers gs)) ws
 
 -- the answer that a frame may have to hand on

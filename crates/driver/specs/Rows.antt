@@ -18,7 +18,7 @@
 -- told has no frame: its row is the newest, and the keys that it asked stand in front of the frames.
 use Rattle.std.specs.Prelude.{◌≡◌, ℕ, List, [], ◌∷◌, ◌++◌, length, drop}
 use Rattle.engine.specs.declared.key.Key.{Key}
-use Rattle.engine.specs.Engine.{Ans, Got, Entry, answers}
+use Rattle.engine.specs.Engine.{Got, Entry, answers}
 use Rattle.engine.specs.Says.{row}
 use Rattle.engine.specs.Machine.{Frame, looks, works}
 use Rattle.memo.specs.Log.{entry_at}

@@ -2,10 +2,14 @@
 #![tactic(auto)]
 
 mod back;
+pub mod bring;
 mod call;
 mod look;
 mod record;
+mod repack;
+mod run;
 mod stack;
 mod state;
 mod tell;
+mod turn;
 mod within;

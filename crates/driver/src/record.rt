@@ -73,7 +73,7 @@ fn bucket_of(k: &Key, buckets: usize) -> usize
 }
 
 // A bucket's head, the log's length and the number of records written.
-fn point(mem: &mut [u32], known: usize, b: usize, head: u32, depth: u32, count: u32)
+pub fn point(mem: &mut [u32], known: usize, b: usize, head: u32, depth: u32, count: u32)
     requires { known + (3 + b) < length mem.old }
     ensures { mem.new ≡ slice_set (slice_set (slice_set mem.old (known + (3 + b)) head) (known + 0) depth) (known + 1) count }
 {

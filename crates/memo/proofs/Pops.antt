@@ -65,7 +65,7 @@ module _ (ws : List ℕ) (f : Fits ws) (n : ℕ) (en : get_or ws 1 0 ≡ suc n) 
   pop_popped =
       let s = sized in
       let x = v0 in
-      record { count = en ∙ ap suc (sym v1); log1 = log_is vs (get_or ws 2 0) n (get_or ws 0 0 - size (log ws)) (older (log ws)) v2 v1 v0 new_log; deep1 = kept_deep; shorter = omega arith }
+      record { count = en ∙ ap suc (sym v1); log1 = log_is vs (get_or ws 2 0) n (get_or ws 0 0 - size (log ws)) (older (log ws)) v2 v1 v0 new_log; deep1 = kept_deep; shorter = omega arith; buckets = v2 }
 
 -- whether a mark is reached
 pub over : (b : ℕ) {n m : ℕ} {ws l : List ℕ} → Logged b n ws → Reaches n ws m l → length ws ≤ length l → (n ≡ m) × (ws ≡ l)
@@ -114,6 +114,15 @@ some_record ws m f r h =
     let g = further (get_or ws 2 0) f.logged r.reached (omega arith) in
     let d = g.1 in
     omega arith
+
+-- how many buckets an emptied memo has
+pub empty_buckets : (ws : List ℕ) (b : ℕ) → 3 + b ≤ length ws → (vs : List ℕ) → vs ≡ pointed (set (puts 3 (replicate b 0) ws) 2 b) 0 0 0 0 → get_or vs 2 0 ≡ b
+empty_buckets ws b r vs e =
+    let os : List ℕ = replicate b 0 in
+    let us = puts 3 os ws in
+    let lr : length os ≡ b = length-replicate {A = ℕ} b 0 in
+    let l0 : length us ≡ length ws = length_puts 3 os ws (omega arith) in
+    ap (λ q. get_or q 2 0) e ∙ pointed_2 (set us 2 b) 0 0 0 0 ∙ get_or-set_same us 2 b 0 (omega arith)
 
 -- an empty memo
 pub empty : (ws : List ℕ) (b : ℕ) → 1 ≤ b → 3 + b ≤ length ws → (vs : List ℕ) → vs ≡ pointed (set (puts 3 (replicate b 0) ws) 2 b) 0 0 0 0 → Fits vs × (kept_entries vs ≡ []) × (length ws ≡ 3 + b + spare vs)

@@ -1,10 +1,11 @@
--- The test memo_fits says what Fits says, both ways (fits_to, fits_from).
-use Rattle.std.proofs.Common.{◌≡◌, ℕ, zero, suc, true, List, [], ◌∷◌, get_or, sym, refl, subst}
+-- The test memo_fits says what Fits says, both ways (fits_to, fits_from), and memo_ready that the buckets are few besides (ready_to,
+-- ready_from).
+use Rattle.std.proofs.Common.{◌≡◌, ℕ, zero, suc, ◌*◌, ◌≤◌, true, List, [], ◌∷◌, length, get_or, sym, refl, subst}
 use Rattle.std.proofs.lemmas.Bool.{and_parts, and_from, eqb-true, eq-eqb, leb-true, le-leb, false≢true}
 use Rattle.base.specs.Base.{same}
 use Rattle.memo.specs.Record.{older}
 use Rattle.memo.specs.Log.{heads, One, Logged, Fits, log}
-use Rattle.memo.specs.Whether.{one_fits, log_fits, memo_fits}
+use Rattle.memo.specs.Whether.{one_fits, log_fits, memo_fits, memo_ready}
 
 pub same_eq : (xs ys : List ℕ) → same xs ys ≡ true → xs ≡ ys
 same_eq [] [] h = refl
@@ -42,3 +43,11 @@ pub fits_from : (ws : List ℕ) → Fits ws → memo_fits ws ≡ true
 unfolding memo_fits
 fits_from ws f =
     and_from _ _ (le-leb _ _ f.buckets) (and_from _ _ (le-leb _ _ f.room) (and_from _ _ (subst (λ q. same q (heads (get_or ws 2 0) (get_or ws 1 0) (log ws)) ≡ true) (sym f.index) (same_refl (heads (get_or ws 2 0) (get_or ws 1 0) (log ws)))) (log_from (get_or ws 2 0) (get_or ws 1 0) (log ws) f.logged)))
+
+pub ready_to : (ws : List ℕ) → memo_ready ws ≡ true → (4 * get_or ws 2 0 ≤ length ws) × Fits ws
+unfolding memo_ready
+ready_to ws h = let p = and_parts _ _ h in (leb-true _ _ p.0, fits_to ws p.1)
+
+pub ready_from : (ws : List ℕ) → 4 * get_or ws 2 0 ≤ length ws → Fits ws → memo_ready ws ≡ true
+unfolding memo_ready
+ready_from ws h f = and_from _ _ (le-leb _ _ h) (fits_from ws f)

@@ -1,13 +1,13 @@
 // The memo: the engine's entries in one lent row of words. What a caller sees are entries: to store one, find one, read it, go back to
-// a mark, and repack. Knows nothing of rules or inputs.
+// a mark, and repack. Records and chains are for whoever moves entries within a larger row. Knows nothing of rules or inputs.
 #![tactic(auto)]
 
-mod chain;
+pub mod chain;
 pub mod entry;
 pub mod index;
 pub mod log;
 pub mod mark;
-mod record;
+pub mod record;
 pub mod repack;
 mod row;
 pub mod slot;

@@ -1,8 +1,9 @@
 // The log and the index over it: making an empty memo, and adding a record. The table of the row's words stands in specs/Log.
-ghost use Rattle.std.specs.Prelude.{◌≡◌, ◌*◌, ◌<◌, length};
+ghost use Rattle.std.specs.Prelude.{◌≡◌, ◌*◌, ◌<◌, true, [], length, slice_index};
 ghost use Rattle.memo.specs.Record.{gots_of, row_long, made};
-ghost use Rattle.memo.specs.Log.{Fits};
+ghost use Rattle.memo.specs.Log.{Fits, kept_entries, spare, capacity};
 ghost use Rattle.memo.specs.Says.{Keeps, StoreSays, Created};
+ghost use Rattle.memo.specs.Whether.{memo_ready};
 
 use crate::chain::bucket_of;
 use crate::record::write;
@@ -12,7 +13,8 @@ use engine::key::Key;
 // An empty memo: a sixteenth of the words are buckets.
 pub fn create(words: &mut [u32]) -> bool
     requires { length words.old < 4294967296 }
-    ensures { Created words.old words.new result }
+    ensures says { Created words.old words.new result }
+    ensures ready { result ≡ true → memo_ready words.new ≡ true }
 {
     if words.len() < 4 {
         return false;
@@ -22,6 +24,20 @@ pub fn create(words: &mut [u32]) -> bool
     words[2] = buckets as u32;
     point(words, 0, 0, 0, 0);
     true
+}
+
+// All entries dropped: every word that isn't the index's is free.
+pub fn forget(words: &mut [u32])
+    requires { (Fits words.old) × (length words.old < 4294967296) }
+    ensures fits { Fits words.new }
+    ensures is { kept_entries words.new ≡ [] }
+    ensures room { spare words.new ≡ capacity words.old }
+    ensures buckets { slice_index words.new 2 ≡ slice_index words.old 2 }
+{
+    let buckets = words[2];
+    clear(words, 3, buckets as usize);
+    words[2] = buckets;
+    point(words, 0, 0, 0, 0);
 }
 
 // An entry stored, as one more record, if there is room: its answer, the keys that it asked, and the row of the answers that it got.

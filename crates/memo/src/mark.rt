@@ -31,6 +31,7 @@ pub fn roll_back(words: &mut [u32], mark: Mark)
     requires { (Fits words.old) × (Marked words.old mark) }
     ensures fits { Fits words.new }
     ensures is { kept_entries words.new ≡ entries_at words.old mark }
+    ensures buckets { slice_index words.new 2 ≡ slice_index words.old 2 }
 {
     while words[0] as usize > mark.depth {
         pop(words);

@@ -1,5 +1,5 @@
 // Repacking: the same entries in the same order, without the old records. It takes a work area, and happens between bringings only.
-ghost use Rattle.std.specs.Prelude.{◌≡◌, ◌+◌, ◌<◌, length, MatchOption};
+ghost use Rattle.std.specs.Prelude.{◌≡◌, ◌+◌, ◌<◌, length, slice_index, MatchOption};
 ghost use Rattle.memo.specs.Record.{entries_long};
 ghost use Rattle.memo.specs.Log.{Fits, kept_entries, spare, capacity};
 ghost use Rattle.memo.specs.Says.{Gathers, RepackSays, gathered, Rebuilds};
@@ -15,6 +15,7 @@ pub fn repack(words: &mut [u32], work: &mut [u32]) -> bool
     requires { (Fits words.old) × ((length words.old < 4294967296) × (length work.old < 4294967296)) }
     ensures fits { Fits words.new }
     ensures says { RepackSays words.old words.new (length work.old) result }
+    ensures buckets { slice_index words.new 2 ≡ slice_index words.old 2 }
 {
     let Some(m) = gather(words, work) else {
         return false;
@@ -58,6 +59,7 @@ fn rebuild(words: &mut [u32], work: &[u32], m: Mark)
     ensures fits { Fits words.new }
     ensures is { kept_entries words.new ≡ gathered work.now m }
     ensures room { spare words.new + entries_long (gathered work.now m) ≡ capacity words.old }
+    ensures buckets { slice_index words.new 2 ≡ slice_index words.old 2 }
 {
     let buckets = words[2];
     clear(words, 3, buckets as usize);

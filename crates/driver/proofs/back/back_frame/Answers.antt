@@ -1,5 +1,5 @@
 -- What is proved by hand of back_frame.
-use Rattle.std.proofs.Common.{◌≡◌, ℕ, ◌+◌, ◌-◌, ◌≤◌, ◌∷◌, length, take, drop, sym, refl, ap, ◌∙◌, subst, arith, length-drop}
+use Rattle.std.proofs.Common.{◌≡◌, ◌-◌, ◌∷◌, length, drop, sym, refl, ap, ◌∙◌, subst, arith, length-drop}
 use Rattle.engine.specs.Machine.{works, back, backed}
 use Rattle.driver.specs.declared.state.Now.TheVariants.{Back}
 use borrow.Rule.Slice.PartMut.{put_mid}

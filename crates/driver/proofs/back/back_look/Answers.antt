@@ -1,5 +1,5 @@
 -- What is proved by hand of back_look.
-use Rattle.std.proofs.Common.{◌-◌, drop, refl, arith, length-drop}
+use Rattle.std.proofs.Common.{◌-◌, refl, arith, length-drop}
 use Rattle.driver.proofs.Lent.{area_on}
 use Rattle.driver.proofs.Calls.{back_same, back_other}
 use Rattle.driver.proofs.back.back_look.Goals as goal

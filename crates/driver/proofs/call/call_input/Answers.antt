@@ -1,5 +1,5 @@
 -- What is proved by hand of call_input.
-use Rattle.std.proofs.Common.{◌≡◌, ℕ, ◌+◌, ◌-◌, ◌≤◌, length, take, drop, sym, refl, ap, ◌∙◌, arith, length-drop}
+use Rattle.std.proofs.Common.{◌≡◌, ◌+◌, ◌-◌, ◌≤◌, length, take, ap, ◌∙◌, arith, length-drop}
 use Rattle.std.proofs.lemmas.List.{take-take, length-take-le}
 use Rattle.driver.proofs.Hands.{hand_before, hand_area, hand_turn}
 use Rattle.driver.proofs.call.call_input.Goals as goal

@@ -1,5 +1,5 @@
 -- What is proved by hand of ask.
-use Rattle.std.proofs.Common.{◌≡◌, ℕ, ◌+◌, ◌-◌, length, take, drop, sym, refl, ap, ◌∙◌, arith, length-drop}
+use Rattle.std.proofs.Common.{◌≡◌, ◌+◌, ◌-◌, length, take, drop, refl, ap, ◌∙◌, arith, length-drop}
 use borrow.Rule.Slice.PartMut.{put_mid}
 use Rattle.memo.specs.Record.{deep}
 use Rattle.driver.specs.Rows.{work_words}

@@ -1,5 +1,5 @@
 -- What is proved by hand of go.
-use Rattle.std.proofs.Common.{◌≡◌, ℕ, ◌+◌, ◌-◌, ◌≤◌, List, [], ◌∷◌, length, take, drop, sym, refl, ap, ◌∙◌, arith, length-drop}
+use Rattle.std.proofs.Common.{◌≡◌, ◌+◌, ◌-◌, List, [], ◌∷◌, length, take, drop, sym, refl, ◌∙◌, arith, length-drop}
 use Rattle.engine.specs.Engine.{Got, answers}
 use Rattle.std.proofs.lemmas.List.{take-take, length-take-le}
 use Rattle.driver.proofs.Hands.{go_before, go_behind, go_says}

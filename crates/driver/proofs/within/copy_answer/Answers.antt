@@ -1,5 +1,5 @@
 -- What is proved by hand of copy_answer.
-use Rattle.std.proofs.Common.{◌≡◌, ◌+◌, ◌-◌, ◌≤◌, length, take, drop, sym, ap, ◌∙◌, arith}
+use Rattle.std.proofs.Common.{◌≡◌, ◌+◌, ◌-◌, ◌≤◌, length, take, drop, ap, ◌∙◌, arith}
 use Rattle.driver.proofs.Words.{copied}
 use Rattle.driver.proofs.Memos.{stands_at}
 use Rattle.driver.proofs.within.copy_answer.Goals as goal

@@ -1,5 +1,5 @@
 -- What is proved by hand of newest_of.
-use Rattle.std.proofs.Common.{◌≡◌, sym, refl, ap, ◌∙◌, subst, arith}
+use Rattle.std.proofs.Common.{sym, ap, ◌∙◌, arith}
 use Rattle.base.specs.Base.{opt}
 use Rattle.engine.specs.Engine.{find}
 use Rattle.memo.specs.Record.{deep}

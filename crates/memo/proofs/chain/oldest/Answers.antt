@@ -1,5 +1,5 @@
 -- What is proved by hand of oldest.
-use Rattle.std.proofs.Common.{◌≡◌, not, get_or, sym, refl, ap, ◌∙◌, subst, arith}
+use Rattle.std.proofs.Common.{not, get_or, sym, ap, ◌∙◌, subst, arith}
 use Rattle.base.specs.Base.{is_some}
 use Rattle.engine.specs.Engine.{same_key, find}
 use Rattle.memo.specs.Record.{older, deep, key_of, records}

@@ -1,7 +1,7 @@
 -- Invariant and measure of oldest.
-use Rattle.std.proofs.Common.{◌≡◌, get_or}
-use Rattle.memo.specs.Record.{older, deep, key_of}
-use Rattle.memo.specs.Log.{Fits, Record}
+use Rattle.std.proofs.Common.{get_or}
+use Rattle.memo.specs.Record.{older, deep}
+use Rattle.memo.specs.Log.{Record}
 use Rattle.memo.proofs.Chains.{Found}
 use Rattle.memo.proofs.chain.oldest.Given as goal
 

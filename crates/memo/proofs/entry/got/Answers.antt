@@ -1,5 +1,5 @@
 -- What is proved by hand of got.
-use Rattle.std.proofs.Common.{◌≡◌, ◌+◌, ◌*◌, get_or, sym, ◌∙◌, arith}
+use Rattle.std.proofs.Common.{◌+◌, ◌*◌, get_or, ◌∙◌, arith}
 use Rattle.memo.specs.Record.{deep}
 use Rattle.memo.proofs.Gots.{looking, got_says}
 use Rattle.memo.proofs.entry.got.Goals as goal

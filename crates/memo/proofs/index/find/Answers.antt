@@ -1,5 +1,5 @@
 -- What is proved by hand of find.
-use Rattle.std.proofs.Common.{◌≡◌, ℕ, ◌+◌, length, get_or, sym, refl, ap, ◌∙◌, subst, arith}
+use Rattle.std.proofs.Common.{◌+◌, get_or, sym, ap, ◌∙◌, subst, arith}
 use Rattle.engine.specs.Engine.{same_key}
 use Rattle.memo.proofs.Places.{Chain, begins, chain_record, chain_stands, goes_on, falls, ends_none, ends_some}
 use Rattle.memo.proofs.index.find.Goals as goal

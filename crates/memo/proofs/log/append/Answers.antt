@@ -1,5 +1,5 @@
 -- What is proved by hand of append.
-use Rattle.std.proofs.Common.{◌≡◌, ℕ, ◌+◌, ◌-◌, ◌≤◌, true, length, get_or, sym, ap, ◌∙◌, subst, arith}
+use Rattle.std.proofs.Common.{◌+◌, true, length, get_or, sym, ap, ◌∙◌, subst, arith}
 use Rattle.memo.specs.Record.{made, gots_of}
 use Rattle.memo.specs.Log.{Fits, pointed, log}
 use Rattle.memo.specs.Says.{Keeps, StoreSays}

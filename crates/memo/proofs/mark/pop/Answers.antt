@@ -1,5 +1,5 @@
 -- What is proved by hand of pop.
-use Rattle.std.proofs.Common.{◌≡◌, ℕ, suc, ◌-◌, length, get_or, sym, ap, ◌∙◌, subst, arith}
+use Rattle.std.proofs.Common.{◌≡◌, suc, ◌-◌, get_or, sym, ap, ◌∙◌, subst, arith}
 use Rattle.memo.specs.Log.{Fits, pointed, bucket}
 use Rattle.memo.specs.Says.{Popped}
 use Rattle.memo.proofs.Pops.{sized, pop_fits, pop_popped}

@@ -1,5 +1,5 @@
 -- What is proved by hand of write.
-use Rattle.std.proofs.Common.{[], ◌∷◌, length, refl, arith}
+use Rattle.std.proofs.Common.{[], ◌∷◌, length}
 use Rattle.memo.proofs.Puts.{four_puts}
 use Rattle.memo.proofs.record.write.Goals as goal
 

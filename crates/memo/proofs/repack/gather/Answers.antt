@@ -1,7 +1,6 @@
 -- What is proved by hand of gather.
-use Rattle.std.proofs.Common.{◌≡◌, ℕ, ◌+◌, ◌-◌, ◌<◌, true, false, length, take, sym, refl, ap, ◌∙◌, subst, arith, length-take}
+use Rattle.std.proofs.Common.{◌+◌, ◌-◌, ◌<◌, length, take, sym, ap, ◌∙◌, subst, arith, length-take}
 use Rattle.memo.specs.Record.{deep, size, puts}
-use Rattle.memo.specs.Says.{OldestSays}
 use Rattle.memo.proofs.Places.{stands, deep_long}
 use Rattle.memo.proofs.Unpacks.{plain_few}
 use Rattle.memo.proofs.Repacks.{Gather, gather_begins, gather_ends, at_gather, gather_skip, gather_full, gather_take}

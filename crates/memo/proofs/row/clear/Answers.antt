@@ -1,5 +1,5 @@
 -- What is proved by hand of clear.
-use Rattle.std.proofs.Common.{◌≡◌, ℕ, ◌+◌, ◌-◌, length, take, drop, replicate, refl, ap, ◌∙◌, arith, length-drop, length-take}
+use Rattle.std.proofs.Common.{◌≡◌, ℕ, ◌+◌, ◌-◌, length, take, drop, replicate, ap, ◌∙◌, arith, length-drop, length-take}
 use lib.ListN.{length-replicate}
 use Rattle.memo.proofs.Puts.{putMid_puts}
 use Rattle.memo.proofs.row.clear.Goals as goal
