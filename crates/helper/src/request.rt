@@ -43,10 +43,10 @@ pub enum Reply {
 
 // The reply to a request; the words of an answer stand at the front of out.
 pub fn answer<H: Helper>(helper: &mut H, request: &Request, out: &mut [u64]) -> Reply
-    requires { fit helper.old }
-    ensures fits { fit helper.new }
-    ensures says { ReplySays (call_of request.now) (texts helper.old) (words helper.old) out.old out.new (texts helper.new) result }
-    ensures lent { words helper.new ≡ words helper.old }
+    requires { H.fit helper.old }
+    ensures fits { H.fit helper.new }
+    ensures says { ReplySays (call_of request.now) (H.texts helper.old) (H.words helper.old) out.old out.new (H.texts helper.new) result }
+    ensures lent { H.words helper.new ≡ H.words helper.old }
 {
     match *request {
         Request::Open { name, text } => Reply::Changed(helper.open(name, text)),

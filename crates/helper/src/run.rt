@@ -61,12 +61,12 @@ impl Transcript {
         requests: &[Request],
         out: &mut [u64],
     ) -> Result<(), AllocError>
-        requires fits { fit helper.old }
+        requires fits { H.fit helper.old }
         requires replies { self.old.replies.items ≡ [] }
         requires words { self.old.words.items ≡ [] }
-        ensures fits { fit helper.new }
-        ensures runs { OnOk result (Runs (words helper.old) (length out.old) (texts helper.old) (calls_of requests.now) self.new.replies.items self.new.words.items (texts helper.new)) }
-        ensures lent { words helper.new ≡ words helper.old }
+        ensures fits { H.fit helper.new }
+        ensures runs { OnOk result (Runs (H.words helper.old) (length out.old) (H.texts helper.old) (calls_of requests.now) self.new.replies.items self.new.words.items (H.texts helper.new)) }
+        ensures lent { H.words helper.new ≡ H.words helper.old }
     {
         for request in requests {
             let reply = answer(helper, request, out);
@@ -83,10 +83,10 @@ pub fn answer_all<H: Helper>(
     requests: &[Request],
     out: &mut [u64],
 ) -> Result<Transcript, AllocError>
-    requires { fit helper.old }
-    ensures fits { fit helper.new }
-    ensures runs { IfOk result (λ t. Runs (words helper.old) (length out.old) (texts helper.old) (calls_of requests.now) t.replies.items t.words.items (texts helper.new)) }
-    ensures lent { words helper.new ≡ words helper.old }
+    requires { H.fit helper.old }
+    ensures fits { H.fit helper.new }
+    ensures runs { IfOk result (λ t. Runs (H.words helper.old) (length out.old) (H.texts helper.old) (calls_of requests.now) t.replies.items t.words.items (H.texts helper.new)) }
+    ensures lent { H.words helper.new ≡ H.words helper.old }
 {
     let mut transcript = Transcript::new(heap);
     transcript.run(helper, requests, out)?;

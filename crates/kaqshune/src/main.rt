@@ -8,10 +8,7 @@ mod options;
 use check::Totals;
 use options::Options;
 use std::io::{BufWriter, Write};
-
-// Something was wrong; what it was has been said. The process then ends with status 1.
-#[derive(Drop)]
-pub struct Failed;
+use std::process::ExitCode;
 
 const HELP: &str = "usage: kaqshune [--exit-zero] [--help] FILE..
 
@@ -41,21 +38,22 @@ fn run(rt: &HostRuntime, options: &Options) -> anyhow::Result<bool> {
     Ok(totals.readable && (options.exit_zero || totals.faults == 0))
 }
 
-fn main(rt: HostRuntime) -> Result<(), Failed> {
+// Where something was wrong, what it was has been said, and the status is 1.
+fn main(rt: HostRuntime) -> ExitCode {
     let options = match Options::from_args(&rt) {
         Ok(options) => options,
         Err(e) => {
             let _ = eprintln!(rt; "kaqshune: {e}");
             let _ = eprint!(rt; "{HELP}");
-            return Err(Failed);
+            return ExitCode::FAILURE;
         }
     };
     match run(&rt, &options) {
-        Ok(true) => Ok(()),
-        Ok(false) => Err(Failed),
+        Ok(true) => ExitCode::SUCCESS,
+        Ok(false) => ExitCode::FAILURE,
         Err(e) => {
             let _ = eprintln!(rt; "kaqshune: {e}");
-            Err(Failed)
+            ExitCode::FAILURE
         }
     }
 }

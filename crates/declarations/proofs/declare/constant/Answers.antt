@@ -8,20 +8,20 @@ use Rattle.syntax.proofs.Views.{nth_none}
 use Rattle.declarations.proofs.Found.{moved, const_is, consts_is, consts_at, consts_past}
 use Rattle.declarations.proofs.declare.constant.Goals as goal
 
-pub returns-in-default : goal.returns-in-default
-returns-in-default c = λ line cs e p.
+pub returns-in_default : goal.returns-in_default
+returns-in_default c = λ line cs e p.
     let i = c.args.i in
     let own = c.args.names.line.now in
     let code = c.args.names.code.now in
-    consts_past c.args.kind.text.now cs i (moved line own code (consts_code cs) i None e p (nth_none own code i c.in-default.ensures))
+    consts_past c.args.kind.text.now cs i (moved line own code (consts_code cs) i None e p (nth_none own code i c.in_default.ensures))
 
-pub returns-in-Some-const-of : goal.returns-in-Some-const-of
-returns-in-Some-const-of c = λ line cs e p.
+pub returns-in-Some-const_of : goal.returns-in-Some-const_of
+returns-in-Some-const_of c = λ line cs e p.
     let i = c.args.i in
     let own = c.args.names.line.now in
     let k = c.args.kind.text.now in
     let t = piece_of c.piece.result in
-    let is = const_is own c.in-Some.op c.in-Some-const-of.s t c.in-Some-const-of.ensures c.piece.ensures in
+    let is = const_is own c.in-Some.op c.in-Some-const_of.s t c.in-Some-const_of.ensures c.piece.ensures in
     let found = moved line own c.args.names.code.now (consts_code cs) i (Some (o_const t)) e p (c.in-Some.ensures.1 ∙ ap Some is) in
     (decl 0 t 1 k [], consts_at k cs i t found, ([], refl, c.empty.ensures.code line, c.empty.ensures.line ∙ p))
 

@@ -5,4 +5,4 @@ use Rattle.world.proofs.Fit.{fits}
 use Rattle.world.proofs.world.WorldLookup.result.Goals as goal
 
 pub returns : goal.returns
-returns c = ap (λ x. typ small_world x.result) c.card-of.ensures ∙ (fits c.args.sig.0).result_fits
+returns c = ap (λ x. typ small_world x.result) c.card_of.ensures ∙ (fits c.args.sig.0).result_fits
