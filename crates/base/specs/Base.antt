@@ -1,5 +1,5 @@
 -- What every other definition uses: choices, options, and words, which are lists of byte values.
-use Rattle.std.specs.Prelude.{ℕ, zero, suc, ◌+◌, Bool, true, false, not, ◌&&◌, ◌||◌, List, [], ◌∷◌, ◌++◌, ◌==◌}
+use Rattle.std.specs.Prelude.{ℕ, Bool, true, false, ◌&&◌, ◌||◌, List, [], ◌∷◌, ◌==◌}
 use Rattle.std.proofs.Math.Option.{Option, some, none}
 
 abbrev pub pick : {A : Type 0} → Bool → A → A → A

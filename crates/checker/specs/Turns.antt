@@ -1,5 +1,5 @@
 -- What each turn of the checker promises: it does one step of the walk, or lacks what that asks.
-use Rattle.std.specs.Prelude.{◌≡◌, ℕ, ◌+◌, ◌-◌, ◌*◌, ◌<◌, ◌≤◌, Bool, true, false, List, [], ◌∷◌, length, take, Ok, Err, Result, ◌==◌, nat_le}
+use Rattle.std.specs.Prelude.{◌≡◌, ℕ, ◌+◌, ◌*◌, ◌<◌, ◌≤◌, Bool, true, false, List, [], ◌∷◌, length, take, Ok, Err, Result, ◌==◌, nat_le}
 use Rattle.std.proofs.Math.Option.{Option, some, none}
 use Rattle.base.specs.Base.{pick}
 use Rattle.lexer.specs.Tokens.{Tok}

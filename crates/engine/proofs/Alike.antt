@@ -1,6 +1,6 @@
 -- Neither what a key comes to nor how many turns are left hangs on the tallies: with the same entries both are the same (left-alike). So the
 -- measure of a loop can be computed from the entries alone.
-use Rattle.std.proofs.Common.{◌≡◌, ℕ, zero, suc, ◌+◌, ◌-◌, Bool, true, false, List, [], ◌∷◌, ◌++◌, length, refl, ap, subst, arith}
+use Rattle.std.proofs.Common.{◌≡◌, ℕ, zero, suc, ◌+◌, ◌-◌, Bool, true, false, List, [], ◌∷◌, ◌++◌, length, refl, ap, subst}
 use mathlib.Core.Option.{Option, some, none}
 use Rattle.engine.specs.declared.key.Key.{Key}
 use Rattle.base.specs.Base.{pick, same}

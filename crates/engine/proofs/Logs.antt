@@ -13,9 +13,9 @@ use Rattle.engine.proofs.Basics.{find_here, find_apart}
 use Rattle.engine.proofs.Steps.{stale_not, stored}
 use Rattle.engine.proofs.Sizes.{size_of, sizes, sizes_signs}
 use Rattle.engine.proofs.Invariant.{Holds, kept_of, settled_turn}
-use Rattle.engine.proofs.Stacks.{Entered, stays, entered_size}
+use Rattle.engine.proofs.Stacks.{stays, entered_size}
 use Rattle.engine.proofs.Room.{future}
-use Rattle.engine.proofs.Loops.{OnTheWay, fits, again}
+use Rattle.engine.proofs.Loops.{OnTheWay, fits}
 
 -- a key called with an empty stack is no input
 abbrev pub Inner : Rules → State → Type 0

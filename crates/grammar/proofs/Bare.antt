@@ -1,16 +1,15 @@
 -- Reading pieces without their places gives what reading them gives, without its places.
-use mathlib.Core.Path.{◌≡◌, refl, sym, ap, subst, ◌∙◌}
+use mathlib.Core.Path.{◌≡◌, refl, sym, ap, ◌∙◌}
 use mathlib.Core.Bool.{Bool, true, false}
 use mathlib.Core.List.{List, [], ◌∷◌}
 use mathlib.Core.Option.{Option, some, none}
 use Prim.Native.Nat.{ℕ, zero, suc, ◌+◌, ◌*◌}
-use native.Mathlib.Omega.{arith}
 use lib.ListN.{length}
 use lib.Dec.{eqb}
 use Rattle.base.specs.Base.{pick, opt, Word, same}
 use Rattle.lexer.specs.Tokens.{Tok, tok, next, tail1, end_of}
 use Rattle.lexer.specs.Words.{op_at, compares, is_name, is_number, is_type, digits, k_let, k_in, k_if, k_then, k_else, k_use, k_kind, k_rec, k_def, t_lp, t_rp, t_comma, t_gets, t_dot}
-use Rattle.grammar.specs.Grammar.{E, Es, no, and_then, e_num, e_name, e_call, e_field, e_op, e_if, e_let, e_par, Got, it, bad, with1, eat, a_word, expr, begins, lets, ifs, level, more, fields, atom, calls, args, Field, Item, nothing, i_use, i_kind, i_rec, i_def, i_bad, names, field_list, params, ended, reads_use, reads_kind, reads_rec, reads_def, reads1, settled, item_of}
+use Rattle.grammar.specs.Grammar.{E, Es, no, and_then, e_num, e_name, e_call, e_field, e_op, Got, it, bad, with1, eat, a_word, expr, begins, lets, ifs, level, more, fields, atom, calls, args, Item, i_use, i_kind, i_rec, i_def, i_bad, names, field_list, params, ended, reads1, settled, item_of}
 use Rattle.grammar.specs.Theorems.{bare_tok, bares, bare_e, bare_es, bare_fields, bare, words, WordsOnly}
 
 -- what was read, by f, and what is left without its places

@@ -3,15 +3,14 @@ use mathlib.Core.Path.{◌≡◌, refl, sym, ap, subst, ◌∙◌}
 use mathlib.Core.Bool.{Bool, true, false, ◌||◌, false≢true}
 use mathlib.Core.List.{List, [], ◌∷◌, ◌++◌, append_assoc, append-nil}
 use mathlib.Core.Logic.{◌⊎◌, inl, inr}
-use Prim.Native.Nat.{ℕ, zero, suc, ◌+◌, ◌≤◌, ◌<◌}
+use Prim.Native.Nat.{ℕ, ◌+◌, ◌≤◌, ◌<◌}
 use native.Mathlib.Omega.{arith}
 use lib.ListN.{length}
 use lib.Dec.{eqb}
 use borrow.Author.Tests.{eqb-true}
 use Rattle.base.specs.Base.{pick, Word}
 use Rattle.lexer.specs.Tokens.{Tok, tok, letter, blank, Mode, gap, in_word, equals, note, Turn, turn, fresh, turns, last1, toks}
-use Rattle.grammar.specs.Grammar.{item_of}
-use Rattle.grammar.specs.Theorems.{words, bare, Apart, BlanksFree}
+use Rattle.grammar.specs.Theorems.{words, Apart, BlanksFree}
 use Rattle.grammar.proofs.Bare.{words_only}
 
 pub words-++ : (as₁ bs : List Tok) → words (as₁ ++ bs) ≡ words as₁ ++ words bs

@@ -1,9 +1,9 @@
 -- The machine that holds no trees comes to the code of what the definition reads, or stops where it does.
 use mathlib.Core.Path.{◌≡◌, refl, sym, ap, subst, ◌∙◌}
-use mathlib.Core.Bool.{Bool, true, false, false≢true}
+use mathlib.Core.Bool.{Bool, true, false}
 use mathlib.Core.List.{List, [], ◌∷◌, ◌++◌, append_assoc}
 use mathlib.Core.Option.{Option, some, none}
-use Prim.Native.Nat.{ℕ, zero, suc, ◌+◌, ◌*◌, ◌≤◌, ◌<◌}
+use Prim.Native.Nat.{ℕ, zero, suc, ◌+◌, ◌*◌, ◌≤◌}
 use native.Mathlib.Omega.{arith}
 use lib.ListN.{length}
 use lib.Dec.{eqb, leb}
@@ -12,7 +12,7 @@ use Rattle.base.specs.Base.{pick, opt, Word, same}
 use Rattle.lexer.specs.Tokens.{Tok, next, tail1}
 use Rattle.lexer.specs.Words.{is_name, is_number, digits, k_let, k_in, k_if, k_then, k_else, t_lp, t_rp, t_comma, t_gets, t_dot, op_any}
 use Rattle.grammar.specs.Grammar.{E, Es, no, and_then, e_num, e_name, e_call, e_field, e_op, e_if, e_let, e_par, Got, it, bad, expr}
-use Rattle.grammar.specs.Code.{Op, o_num, o_name, o_call, o_arg, o_end, o_field, o_op, o_cond, o_if, o_bind, o_let, o_par, count, onto, ontos, code}
+use Rattle.grammar.specs.Code.{Op, o_call, o_arg, o_end, o_field, o_op, o_cond, o_if, o_bind, o_let, o_par, count, onto, ontos, code}
 use Rattle.grammar.specs.Machine.{lev, made, Frame, f_par, f_call, f_bound, f_body, f_cond, f_then, f_else, f_right, p_begin, p_atom, p_value, State, going, won, lost, base, patch, eats, names_it, do_begin, do_call, do_atom, pop, do_dot, do_op, do_value, step, run, start, as_code, effort, outcome}
 use Rattle.grammar.proofs.Fuel.{tail_most}
 use Rattle.grammar.proofs.Free.{lev_in}

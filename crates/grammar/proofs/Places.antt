@@ -1,5 +1,5 @@
 -- What is left where reading goes on or goes wrong is a tail of what was there; so the place of what isn't understood is a piece's own, or the end.
-use mathlib.Core.Path.{◌≡◌, refl, sym, ap, subst, ◌∙◌}
+use mathlib.Core.Path.{◌≡◌, refl, sym, subst, ◌∙◌}
 use mathlib.Core.Bool.{Bool, true, false}
 use mathlib.Core.List.{List, [], ◌∷◌, ◌++◌, append_assoc}
 use mathlib.Core.Logic.{◌⊎◌, inl, inr}
@@ -11,7 +11,7 @@ use lib.Dec.{eqb}
 use Rattle.base.specs.Base.{pick, opt, Word, same}
 use Rattle.lexer.specs.Tokens.{Tok, next, tail1, end_of}
 use Rattle.lexer.specs.Words.{op_at, compares, is_name, is_number, is_type, digits, k_let, k_in, k_if, k_then, k_else, k_use, k_kind, k_rec, k_def, t_lp, t_rp, t_comma, t_gets, t_dot}
-use Rattle.grammar.specs.Grammar.{E, Es, no, and_then, e_num, e_name, e_call, e_field, e_op, e_if, e_let, e_par, Got, it, bad, with1, eat, a_word, expr, begins, lets, ifs, level, more, fields, atom, calls, args, Field, Item, nothing, i_use, i_kind, i_rec, i_def, i_bad, names, field_list, params, ended, reads_use, reads_kind, reads_rec, reads_def, reads1, settled, item_of}
+use Rattle.grammar.specs.Grammar.{E, Es, and_then, e_field, e_op, Got, it, bad, with1, eat, a_word, expr, begins, lets, ifs, level, more, fields, atom, calls, args, Item, nothing, i_use, i_kind, i_rec, i_def, i_bad, names, field_list, params, ended, reads1, settled}
 use Rattle.grammar.specs.Theorems.{PieceAt, WrongPlace}
 
 -- us is a tail of ts

@@ -1,6 +1,6 @@
 -- A line as flat code: one operation for each thing that a checker does, in the order in which it does it.
 -- A call's beginning carries how many arguments it has. Brackets, let and if have no operation where they begin.
-use Rattle.std.specs.Prelude.{List, [], ◌∷◌, ◌++◌, ℕ, zero, suc, ◌+◌}
+use Rattle.std.specs.Prelude.{List, [], ◌∷◌, ℕ, suc}
 use Rattle.lexer.specs.Tokens.{Tok}
 use Rattle.grammar.specs.Grammar.{E, Es, no, and_then, e_num, e_name, e_call, e_field, e_op, e_if, e_let, e_par, Field, Item, nothing, i_use, i_kind, i_rec, i_def, i_bad}
 

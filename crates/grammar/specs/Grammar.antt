@@ -1,7 +1,6 @@
 -- What a line says: expressions and items, and how they are read from pieces.
-use Rattle.std.specs.Prelude.{Bool, true, false, ◌&&◌, ◌||◌, not, List, [], ◌∷◌, ◌++◌, ℕ, zero, suc, ◌+◌, ◌-◌, ◌*◌, length, take, drop, eqb, ltb, leb}
-use Rattle.std.proofs.Math.Option.{Option, some, none}
-use Rattle.base.specs.Base.{pick, opt, on_some, or_else, when1, Word, same, among}
+use Rattle.std.specs.Prelude.{Bool, List, [], ◌∷◌, ℕ, zero, suc, ◌+◌, ◌*◌, length, eqb}
+use Rattle.base.specs.Base.{pick, opt, Word, same}
 use Rattle.lexer.specs.Tokens.{Tok, Line, pieces, next, tail1, end_of}
 use Rattle.lexer.specs.Words.{k_use, k_kind, k_rec, k_def, k_let, k_in, k_if, k_then, k_else, t_lp, t_rp, t_comma, t_gets, t_dot, is_name, is_number, digits, is_type, op_at, compares}
 

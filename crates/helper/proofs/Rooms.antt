@@ -1,5 +1,5 @@
 -- How much room texts take at most.
-use Rattle.std.proofs.Common.{◌≡◌, ℕ, ◌+◌, ◌*◌, ◌≤◌, max, List, [], ◌∷◌, length, arith}
+use Rattle.std.proofs.Common.{◌+◌, ◌*◌, ◌≤◌, [], ◌∷◌, arith}
 use native.Mathlib.Nat.{max-le}
 use Rattle.semantics.specs.Names.{Texts}
 use Rattle.semantics.specs.Answers.{weigh_texts}

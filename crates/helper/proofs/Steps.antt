@@ -1,13 +1,12 @@
 -- From what one call says to a run of calls.
 use Rattle.std.proofs.Common.{◌≡◌, ℕ, zero, suc, ◌+◌, ◌<◌, ◌≤◌, min, Bool, true, false, ◌&&◌, leb, ◌⊎◌, List, [], ◌∷◌, ◌++◌, length, get_or, take, sym, refl, ap, ◌∙◌, subst, inl, inr, append_assoc, append-nil, arith, le-leb}
-use mathlib.Core.Option.{Option, some, none}
+use mathlib.Core.Option.{Option, some}
 use native.Mathlib.Nat.{zero-min, suc-min-suc}
 use borrow.Author.Tests.{lt-leb}
 use Rattle.std.proofs.lemmas.List.{take_more}
 use Rattle.base.specs.Base.{pick, opt}
 use Rattle.semantics.specs.Names.{File, Texts, find_file}
-use Rattle.semantics.specs.Answers.{faults, type_of, where_is, puts_file, edits}
-use Rattle.helper.specs.declared.contract.Changed.{Changed}
+use Rattle.semantics.specs.Answers.{puts_file, edits}
 use Rattle.helper.specs.declared.contract.Changed.TheVariants.{Made, NoFile, NoPlace, NoRoom}
 use Rattle.helper.specs.declared.contract.Answer.{Answer}
 use Rattle.helper.specs.declared.contract.Answer.TheVariants.{Words, Missing, OutFull}
@@ -16,7 +15,7 @@ use Rattle.helper.specs.declared.request.Reply.{Reply}
 use Rattle.helper.specs.declared.request.Reply.TheVariants.{Changed as Change, Closed, Answered}
 use Rattle.helper.specs.Says.{AskSays, room}
 use Rattle.helper.specs.Replies.{Call, opens, edited, closes, asks_faults, asks_type, asks_place, ReplySays, edit_fits, texts_after, answer_of, answered, words_of, reply_to, output_len, call_of, calls_of}
-use Rattle.helper.specs.Runs.{Defined, Narrow, Long, Replied, Runs, ends, next}
+use Rattle.helper.specs.Runs.{Replied, Runs, ends, next}
 
 fits_true : (a b : ℕ) (y : File) → a ≤ b → b ≤ length y.text → edit_fits a b y ≡ true
 fits_true a b y h k = ap (λ t. t && leb b (length y.text)) (le-leb a b h) ∙ le-leb b (length y.text) k

@@ -5,7 +5,7 @@ use Rattle.base.specs.Base.{Word, pick, opt, is_some}
 use Rattle.semantics.specs.Names.{File, Texts, find_file}
 use Rattle.semantics.specs.Answers.{faults, type_of, where_is, puts_file, drops_file, edits}
 use Rattle.helper.specs.declared.contract.Changed.{Changed}
-use Rattle.helper.specs.declared.contract.Changed.TheVariants.{Made, NoFile, NoPlace, NoRoom}
+use Rattle.helper.specs.declared.contract.Changed.TheVariants.{Made, NoFile, NoPlace}
 use Rattle.helper.specs.declared.contract.Answer.{Answer}
 use Rattle.helper.specs.declared.contract.Answer.TheVariants.{Words, Missing, OutFull}
 use Rattle.helper.specs.declared.request.Request.{Request}

@@ -1,11 +1,10 @@
 -- Each test on a piece's word, as a test on its kind: what the parser asks of a token instead of comparing words.
-use Rattle.std.proofs.Common.{◌≡◌, ℕ, zero, suc, Bool, true, false, not, ◌&&◌, ◌||◌, eqb, leb, List, [], ◌∷◌, sym, refl, ap, ◌∙◌, subst, eqb-true}
+use Rattle.std.proofs.Common.{◌≡◌, ℕ, Bool, true, false, not, ◌&&◌, ◌||◌, eqb, [], ◌∷◌, sym, refl, ap, ◌∙◌, subst, eqb-true}
 use mathlib.Core.Bool.{false≢true}
 use mathlib.Core.Option.{Option, some, none}
-use Rattle.base.specs.Base.{pick, opt, or_else, when1, Word, same, among, any_of}
+use Rattle.base.specs.Base.{pick, or_else, when1, Word, same, among}
 use Rattle.lexer.specs.Tokens.{letter}
-use Rattle.lexer.specs.Words.{k_use, k_kind, k_rec, k_def, k_let, k_in, k_if, k_then, k_else, k_and, k_or, k_num, k_bool, t_lp, t_rp, t_comma, t_gets, t_is, t_less, t_plus, t_minus, t_times, t_dot, kept, first, is_number, digits, is_name, is_type, op_at, compares, op_any}
-use Rattle.lexer.specs.declared.token.Operator.{Operator}
+use Rattle.lexer.specs.Words.{k_use, k_kind, k_rec, k_def, k_let, k_in, k_if, k_then, k_else, k_and, k_or, k_num, k_bool, t_lp, t_rp, t_comma, t_gets, t_is, t_less, t_plus, t_minus, t_times, t_dot, kept, first, is_number, digits, is_name, is_type, op_any}
 use Rattle.lexer.specs.declared.token.Operator.TheVariants.{Plus, Minus, Times, Equal, Less, And, Or}
 use Rattle.lexer.specs.declared.token.Token.{Token}
 use Rattle.lexer.specs.declared.token.Token.TheVariants.{Use, Kind, Rec, Def, Let, In, If, Then, Else, Num, Bool as TypeBool, Open, Close, Comma, Gets, Dot, Sign, Number, BadNumber, Name, Other, End}

@@ -1,7 +1,7 @@
 -- What a piece can be: the fixed words, names, numbers and operators.
-use Rattle.std.specs.Prelude.{ℕ, zero, suc, ◌+◌, ◌-◌, ◌*◌, Bool, true, false, not, ◌&&◌, ◌||◌, List, [], ◌∷◌, ◌++◌, length, ◌==◌, nat_le}
+use Rattle.std.specs.Prelude.{ℕ, Bool, true, not, ◌&&◌, ◌||◌, List, [], ◌∷◌, ◌==◌, nat_le}
 use Rattle.std.proofs.Math.Option.{Option, some, none}
-use Rattle.base.specs.Base.{pick, opt, on_some, or_else, when1, Word, same, among}
+use Rattle.base.specs.Base.{pick, or_else, when1, Word, same, among}
 use Rattle.lexer.specs.Tokens.{letter}
 
 -- the reserved words (k-) and the signs (t-), by their bytes

@@ -6,7 +6,7 @@ use Rattle.lexer.specs.Tokens.{Tok, tok, Mode, gap, in_word, equals, note, lette
 use Rattle.grammar.specs.Machine.{Frame as Waits, f_par, f_call, f_bound, f_body, f_cond, f_then, f_else, f_right, State, going, won, step, start, effort, weight, outcome, p_begin}
 use Rattle.grammar.proofs.Flat.{step_less, outcome_step, outcome_won, outcome_lost, is_won, is_lost}
 use Rattle.grammar.proofs.Same.{same_expr}
-use Rattle.grammar.proofs.Room.{Room, Calls, step_room, start_room, won_few, frames_few, ops_few}
+use Rattle.grammar.proofs.Room.{Room, Calls, step_room, start_room, won_few}
 use Rattle.parser.specs.declared.turn.Bounds.{Bounds}
 use Rattle.parser.specs.declared.turn.Place.{Place}
 use Rattle.parser.specs.declared.turn.Phase.{Phase}

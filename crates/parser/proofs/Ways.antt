@@ -1,6 +1,6 @@
 -- One lemma for each way through a turn: what the token at a place says of the machine's step there.
 use Rattle.std.proofs.Common.{◌≡◌, ℕ, zero, suc, ◌+◌, ◌-◌, ◌<◌, ◌≤◌, Bool, true, false, eqb, leb, List, [], ◌∷◌, ◌++◌, length, take, sym, refl, ap, ◌∙◌, subst, append_assoc, arith, eq-eqb, ne_eqb, le-leb}
-use mathlib.Core.Option.{Option, none}
+use mathlib.Core.Option.{Option}
 use borrow.Author.Tests.{lt-leb}
 use Rattle.std.proofs.lemmas.List.{take-take}
 use Rattle.base.specs.Base.{pick, opt, Word, same}

@@ -1,5 +1,5 @@
 -- Lines cut behind a word and at the first blank.
-use Rattle.std.proofs.Common.{◌≡◌, ℕ, suc, ◌+◌, ◌-◌, ◌<◌, ◌≤◌, eqb, List, [], ◌∷◌, length, get_or, take, drop, Some, None, Option as Perhaps, sym, refl, ap, ◌∙◌, add-one, arith, eq-eqb, ne_eqb}
+use Rattle.std.proofs.Common.{◌≡◌, ℕ, suc, ◌+◌, ◌-◌, ◌<◌, ◌≤◌, eqb, List, ◌∷◌, length, get_or, take, drop, Some, None, Option as Perhaps, sym, ap, ◌∙◌, add-one, arith, eq-eqb, ne_eqb}
 use Rattle.base.specs.Base.{pick}
 use Rattle.protocol.specs.Headers.{behind_word, blank_in, tail_of}
 use Rattle.protocol.proofs.Rows.{at_place, drop_all, rest_all}

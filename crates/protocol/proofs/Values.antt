@@ -1,5 +1,5 @@
 -- Digits read one after the other have the value that the definition gives, or are refused as it refuses.
-use Rattle.std.proofs.Common.{◌≡◌, ℕ, ◌+◌, ◌-◌, ◌*◌, ◌<◌, ◌≤◌, Bool, true, false, ◌&&◌, ltb, List, [], ◌∷◌, length, get_or, drop, Some, None, Option as Perhaps, sym, refl, ap, ◌∙◌, subst, arith, ltb-false, ltb-true, le-ltb, lt-ltb}
+use Rattle.std.proofs.Common.{◌≡◌, ℕ, ◌+◌, ◌-◌, ◌*◌, ◌<◌, ◌≤◌, Bool, true, false, ◌&&◌, ltb, List, [], ◌∷◌, length, get_or, drop, Some, None, Option as Perhaps, sym, refl, ap, ◌∙◌, arith, ltb-false, ltb-true, le-ltb, lt-ltb}
 use Rattle.base.specs.Base.{pick}
 use Rattle.protocol.proofs.Rows.{at_place, drop_all}
 use Rattle.protocol.specs.Numbers.{is_digit, all_digits, value_on, limit, one_more, digits_value}

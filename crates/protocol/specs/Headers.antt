@@ -1,5 +1,5 @@
 -- Header lines: a word or two, and numbers, one blank between each; and the bytes that follow a header.
-use Rattle.std.specs.Prelude.{◌≡◌, ℕ, suc, ◌+◌, ◌-◌, Bool, true, false, ◌&&◌, List, [], ◌∷◌, length, take, drop, Some, None, codes, Option as Perhaps, ◌==◌, nat_lt, slice_index}
+use Rattle.std.specs.Prelude.{◌≡◌, ℕ, suc, ◌+◌, ◌-◌, ◌&&◌, List, [], ◌∷◌, length, take, drop, Some, None, codes, Option as Perhaps, ◌==◌, nat_lt, slice_index}
 use Rattle.std.specs.Borrow.{Bor}
 use Rattle.base.specs.Base.{pick}
 use Rattle.helper.specs.declared.request.Request.{Request}

@@ -1,9 +1,8 @@
 -- How replies are written, a line each.
-use Rattle.std.specs.Prelude.{ℕ, Bool, true, false, List, [], ◌∷◌, ◌++◌, length, take, drop, codes, decimal, ◌==◌, nat_lt}
+use Rattle.std.specs.Prelude.{ℕ, List, [], ◌∷◌, ◌++◌, length, take, drop, codes, decimal, ◌==◌, nat_lt}
 use Rattle.base.specs.Base.{pick}
 use Rattle.helper.specs.declared.contract.Changed.{Changed}
 use Rattle.helper.specs.declared.contract.Changed.TheVariants.{Made, NoFile, NoPlace, NoRoom}
-use Rattle.helper.specs.declared.contract.Answer.{Answer}
 use Rattle.helper.specs.declared.contract.Answer.TheVariants.{Words, Missing, OutFull}
 use Rattle.helper.specs.declared.request.Reply.{Reply}
 use Rattle.helper.specs.declared.request.Reply.TheVariants.{Changed as Change, Closed, Answered}

@@ -1,5 +1,5 @@
 -- Which number bytes are.
-use Rattle.std.specs.Prelude.{ℕ, ◌+◌, ◌-◌, ◌*◌, Bool, true, false, ◌&&◌, List, [], ◌∷◌, Some, None, Option as Perhaps, nat_le, nat_lt}
+use Rattle.std.specs.Prelude.{ℕ, ◌+◌, ◌-◌, ◌*◌, Bool, true, ◌&&◌, List, [], ◌∷◌, Some, None, Option as Perhaps, nat_le, nat_lt}
 use Rattle.base.specs.Base.{pick}
 
 abbrev pub is_digit : ℕ → Bool

@@ -1,5 +1,5 @@
 -- How a line and the mark under a place of it are shown.
-use Rattle.std.specs.Prelude.{ℕ, zero, suc, ◌-◌, Bool, ◌&&◌, ◌||◌, List, [], ◌∷◌, ◌++◌, replicate, ◌==◌, nat_le, nat_lt}
+use Rattle.std.specs.Prelude.{ℕ, ◌-◌, ◌&&◌, ◌||◌, List, [], ◌∷◌, ◌++◌, replicate, ◌==◌, nat_le, nat_lt}
 use Rattle.base.specs.Base.{pick}
 
 -- a byte that can be printed is itself; a tab or a return a blank; any other a question mark: one sign for one byte

@@ -1,19 +1,15 @@
 -- Another type is wanted only of what has one; and the types noted are those of the parts.
-use mathlib.Core.Path.{◌≡◌, refl, sym, ap, subst, ◌∙◌}
-use mathlib.Core.Bool.{Bool, true, false}
-use mathlib.Core.List.{List, [], ◌∷◌, ◌++◌}
-use mathlib.Core.Logic.{◌⊎◌, inl, inr}
-use mathlib.Core.Option.{Option, some, none}
-use Prim.Native.Nat.{ℕ, zero, suc, ◌+◌, ◌≤◌}
+use mathlib.Core.Path.{◌≡◌, refl}
+use mathlib.Core.Bool.{Bool}
+use mathlib.Core.List.{List}
 use native.Mathlib.Omega.{arith}
 use Rattle.base.specs.Base.{Word}
-use Rattle.lexer.specs.Tokens.{Tok}
-use Rattle.grammar.specs.Grammar.{E, from_of, to_of, Item, i_bad}
+use Rattle.grammar.specs.Grammar.{E, from_of, to_of, Item}
 use Rattle.semantics.specs.Names.{Sig}
-use Rattle.semantics.specs.Check.{Fault, Typed, Link, Local, Look, faults_in, types_in, check, of_item}
-use Rattle.semantics.specs.Theorems.{Each, One, Among, Part, parts, item_parts, Blamed, Notes, UntypedUnblamed, TypesMean, type_words}
+use Rattle.semantics.specs.Check.{Fault, Typed, Link, Local, Look, check, of_item}
+use Rattle.semantics.specs.Theorems.{Each, One, Part, parts, item_parts, Blamed, Notes, UntypedUnblamed, TypesMean, type_words}
 use Rattle.semantics.proofs.Lists.{each_of, one_of}
-use Rattle.semantics.proofs.Gather.{Says, Node, Faulty, check_says, item_says, Whole, item_tokens, TypeLinked, Uses}
+use Rattle.semantics.proofs.Gather.{Says, Node, Faulty, check_says, item_says, item_tokens, TypeLinked}
 
 module _ (here : Look) (there : Word → Word → Sig) where
   -- fault 5 stands at one of these parts, which has a type

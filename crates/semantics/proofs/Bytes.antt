@@ -1,14 +1,13 @@
 -- A line has no more pieces than bytes, and asks no more than it has bytes.
-use mathlib.Core.Path.{◌≡◌, refl, ap, sym, ◌∙◌}
 use mathlib.Core.Bool.{Bool, true, false}
 use mathlib.Core.List.{List, [], ◌∷◌, ◌++◌}
-use Prim.Native.Nat.{ℕ, zero, suc, ◌+◌, ◌*◌, ◌≤◌}
+use Prim.Native.Nat.{ℕ, ◌+◌, ◌≤◌}
 use native.Mathlib.Omega.{arith}
 use lib.ListN.{length, length-append}
 use lib.Dec.{eqb}
-use Rattle.base.specs.Base.{pick, Word}
+use Rattle.base.specs.Base.{pick}
 use Rattle.lexer.specs.Tokens.{Tok, tok, Mode, gap, in_word, equals, note, Turn, turn, fresh, turns, last1, toks, letter, blank, Line, pieces}
-use Rattle.grammar.specs.Grammar.{item, item_of}
+use Rattle.grammar.specs.Grammar.{item}
 use Rattle.grammar.specs.Code.{item_code}
 use Rattle.semantics.specs.Walk.{Query, Known, asked, start}
 use Rattle.semantics.proofs.Partial.{asked_few}

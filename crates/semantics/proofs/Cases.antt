@@ -1,12 +1,12 @@
 -- Worked texts, answered by the definitions.
 use mathlib.Core.Path.{◌≡◌, refl}
-use mathlib.Core.List.{List, [], ◌∷◌, ◌++◌}
-use mathlib.Core.Option.{Option, some, none}
+use mathlib.Core.List.{List, [], ◌∷◌}
+use mathlib.Core.Option.{some}
 use Prim.Native.Nat.{ℕ}
 use lib.Chars.{codes}
 use Rattle.base.specs.Base.{Word}
-use Rattle.semantics.specs.Names.{File, Texts}
-use Rattle.semantics.specs.Answers.{faults, type_of, where_is}
+use Rattle.semantics.specs.Names.{Texts}
+use Rattle.semantics.specs.Answers.{faults}
 
 -- a file alone
 abbrev x : Word

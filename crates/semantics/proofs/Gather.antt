@@ -1,21 +1,20 @@
 -- What is said of an expression or a line is said at its parts: what holds of each part's faults, types and links holds of all of them.
-use mathlib.Core.Path.{◌≡◌, refl, sym, ap, subst, ◌∙◌}
-use mathlib.Core.Bool.{Bool, true, false, ◌&&◌, ◌||◌, not}
+use mathlib.Core.Path.{◌≡◌, refl}
+use mathlib.Core.Bool.{Bool, true, false, ◌&&◌, not}
 use mathlib.Core.List.{List, [], ◌∷◌, ◌++◌}
-use mathlib.Core.Logic.{◌⊎◌, inl, inr}
 use mathlib.Core.Option.{Option, some, none}
-use Prim.Native.Nat.{ℕ, zero, suc, ◌+◌, ◌≤◌}
+use Prim.Native.Nat.{ℕ, ◌≤◌}
 use native.Mathlib.Omega.{arith}
 use lib.ListN.{length}
 use lib.Dec.{eqb, leb}
-use Rattle.base.specs.Base.{pick, opt, or_else, Word, same, among}
+use Rattle.base.specs.Base.{pick, opt, Word, same, among}
 use Rattle.lexer.specs.Tokens.{Tok}
 use Rattle.lexer.specs.Words.{k_num, k_bool}
 use Rattle.grammar.specs.Grammar.{E, e_num, e_name, e_call, e_field, e_op, e_if, e_let, e_par, Es, no, and_then, from_of, to_of, Field, Item, nothing, i_use, i_kind, i_rec, i_def, i_bad}
 use Rattle.grammar.specs.Code.{count}
 use Rattle.semantics.specs.Names.{Ty, t_num, t_bool, t_of, same_ty, Slot, Sig, s_unknown, s_several, s_type, s_const, s_rec, s_def}
-use Rattle.semantics.specs.Check.{Fault, Typed, Link, Said, said, fault, faults_in, types_in, links_in, ty_in, typed, Local, find, Look, link_local, link_to, wants, of_slot, name_alone, Callee, calls_it, callee, of_record, field_of, both, op_type, op_faults, count_fault, in_front, check, checks, quiet, wrong, join, wanted, with_call, with_field, with_op, with_if, with_let, second, of_type, again, new_names, of_fields, locals, of_def, of_item}
-use Rattle.semantics.specs.Theorems.{Each, One, Part, part, parts, all_parts, item_parts, part_type, Declared, Leads, name_in, field_types, type_words}
+use Rattle.semantics.specs.Check.{Fault, Typed, Link, Said, said, fault, faults_in, types_in, links_in, ty_in, typed, Local, find, Look, link_local, link_to, wants, of_slot, name_alone, Callee, calls_it, callee, of_record, field_of, both, count_fault, in_front, check, checks, quiet, wrong, join, wanted, with_call, with_field, with_op, with_if, with_let, second, of_type, again, new_names, of_fields, locals, of_def, of_item}
+use Rattle.semantics.specs.Theorems.{Each, Part, part, parts, all_parts, item_parts, part_type, Leads, name_in, field_types, type_words}
 use Rattle.semantics.proofs.Lists.{each_cat, each_left, each_right}
 
 -- the piece at which an expression's own faults stand

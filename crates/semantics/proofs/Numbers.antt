@@ -1,21 +1,21 @@
 -- How many faults, types and links a line has, which numbers its faults have, and where a file's faults stand.
-use mathlib.Core.Path.{◌≡◌, refl, sym, ap, subst, ◌∙◌}
+use mathlib.Core.Path.{◌≡◌, ap, subst}
 use mathlib.Core.Bool.{Bool, true, false}
 use mathlib.Core.List.{List, [], ◌∷◌, ◌++◌}
-use mathlib.Core.Option.{Option, some, none}
-use Prim.Native.Nat.{ℕ, zero, suc, ◌+◌, ◌*◌, ◌≤◌}
+use mathlib.Core.Option.{some}
+use Prim.Native.Nat.{ℕ, ◌+◌, ◌*◌, ◌≤◌}
 use native.Mathlib.Omega.{arith}
 use lib.ListN.{length, length-append}
 use lib.Dec.{eqb}
 use Rattle.base.specs.Base.{pick, on_some, Word}
 use Rattle.lexer.specs.Tokens.{Tok, Line, cut, lines, pieces, gap}
-use Rattle.grammar.specs.Grammar.{from_of, to_of, Item, i_bad, item, item_of}
+use Rattle.grammar.specs.Grammar.{Item, i_bad, item}
 use Rattle.grammar.specs.Code.{item_code}
-use Rattle.semantics.specs.Names.{File, Texts, find_file, Sig, sig}
-use Rattle.semantics.specs.Check.{Fault, Typed, Link, Look, Said, faults_in, types_in, links_in, of_item}
-use Rattle.semantics.specs.Answers.{there, there_file, Spoken, spoken, all_spoken, declared, says_line, fault_words, faults_of, faults}
-use Rattle.semantics.specs.Walk.{Output, answer, run, start, add, silent}
-use Rattle.semantics.specs.Theorems.{Each, item_parts, type_words, FaultNumbers, LittleSaid, Threes, FaultsInText, StandsIn, WithinLine}
+use Rattle.semantics.specs.Names.{Texts, Sig, sig}
+use Rattle.semantics.specs.Check.{Fault, Typed, Link, Look, faults_in, types_in, links_in, of_item}
+use Rattle.semantics.specs.Answers.{there, there_file, spoken, all_spoken, declared, says_line, fault_words, faults_of, faults}
+use Rattle.semantics.specs.Walk.{Output, answer, run, start}
+use Rattle.semantics.specs.Theorems.{Each, item_parts, type_words, FaultNumbers, LittleSaid, Threes, FaultsInText, StandsIn}
 use Rattle.semantics.proofs.Lists.{each_of}
 use Rattle.semantics.proofs.Gather.{Says, Node, Faulty, item_says, item_tokens, TypeLinked}
 use Rattle.semantics.proofs.Whole.{item_runs}

@@ -1,19 +1,19 @@
 -- Every answer over texts is that over what is read of them.
 use mathlib.Core.Path.{◌≡◌, refl, sym, ap, ◌∙◌}
-use mathlib.Core.Bool.{Bool, true, false, ◌&&◌, ◌||◌, not}
+use mathlib.Core.Bool.{Bool, true, false}
 use mathlib.Core.List.{List, [], ◌∷◌, ◌++◌}
 use mathlib.Core.Option.{Option, some, none}
-use Prim.Native.Nat.{ℕ, zero, suc, ◌+◌, ◌-◌}
+use Prim.Native.Nat.{ℕ, ◌+◌, ◌-◌}
 use lib.ListN.{length}
 use lib.Dec.{eqb}
 use Rattle.base.specs.Base.{pick, opt, on_some, is_some, Word, same}
 use Rattle.lexer.specs.Tokens.{Line, lines, pieces}
 use Rattle.lexer.specs.Words.{k_num, k_bool}
-use Rattle.grammar.specs.Grammar.{Item, item_of, Field}
-use Rattle.semantics.specs.Names.{File, Texts, find_file, Ty, t_num, t_bool, Decl, decls_item, decls_lines, decls, find_decl, uses_item, uses_lines, used, At, Found, unknown, several, one, in_file, among_used, meaning, found_type, type_named, Slot, slots, Sig, s_unknown, s_several, s_type, s_const, s_rec, s_def, sig_decl, sig_of, sig}
-use Rattle.semantics.specs.Check.{Link, faults_in, types_in, links_in, of_item}
-use Rattle.semantics.specs.Answers.{there, there_file, names_of, declared, says_line, Spoken, spoken, all_spoken, faults_of, faults, line_at, smallest, type_words, type_of, link_at, place, where_is}
-use Rattle.semantics.specs.Read.{Row, Source, row, rows_of, source, sources, find_source, r_decls, with_used, r_uses, r_in_file, found_too, r_among_used, r_meaning, r_type_named, r_slots, r_sig_decl, r_sig_of, r_sig, r_there, r_there_file, r_spoken, r_all_spoken, r_faults, r_type_of, r_place, r_where_is}
+use Rattle.grammar.specs.Grammar.{item_of, Field}
+use Rattle.semantics.specs.Names.{File, Texts, find_file, t_num, t_bool, Decl, decls_item, decls_lines, find_decl, uses_item, uses_lines, used, Found, unknown, several, one, in_file, among_used, meaning, found_type, type_named, slots, s_type, s_const, s_rec, s_def, sig_decl, sig_of, sig}
+use Rattle.semantics.specs.Check.{Link, types_in, links_in, of_item}
+use Rattle.semantics.specs.Answers.{there, there_file, declared, Spoken, spoken, all_spoken, faults_of, faults, line_at, smallest, type_words, type_of, link_at, place, where_is}
+use Rattle.semantics.specs.Read.{Source, rows_of, source, sources, find_source, r_decls, with_used, r_uses, r_in_file, found_too, r_among_used, r_meaning, r_type_named, r_slots, r_sig_decl, r_sig_of, r_sig, r_there, r_there_file, r_spoken, r_all_spoken, r_faults, r_type_of, r_place, r_where_is}
 use Rattle.semantics.specs.Theorems.{ItemsOnly}
 
 decls_read : (ls : List Line) → decls_lines ls ≡ r_decls (rows_of ls)

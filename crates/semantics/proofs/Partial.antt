@@ -1,14 +1,13 @@
 -- The walk that stops at the first thing that isn't known: what it comes to.
-use mathlib.Core.Path.{◌≡◌, refl, ap, sym, ◌∙◌, subst}
-use mathlib.Core.Bool.{Bool, true, false}
+use mathlib.Core.Path.{◌≡◌, refl, ap, sym, ◌∙◌}
 use mathlib.Core.List.{List, [], ◌∷◌, ◌++◌}
 use mathlib.Core.Option.{Option, some, none}
-use Prim.Native.Nat.{ℕ, zero, suc, ◌+◌, ◌≤◌, ◌<◌}
+use Prim.Native.Nat.{ℕ, zero, suc, ◌≤◌}
 use native.Mathlib.Omega.{arith}
 use lib.ListN.{length, take}
 use Rattle.base.specs.Base.{opt}
 use Rattle.grammar.specs.Code.{Op}
-use Rattle.semantics.specs.Walk.{State, Query, asks, step, told, run, asked, Fetch, lacks, has, Outcome, need, ends, fetch, go_on, tries, Known, k_sig, k_yes, or_lacks, first_lacking, Agrees, next_told, walk, all_told, at_place}
+use Rattle.semantics.specs.Walk.{State, Query, asks, step, told, run, asked, Fetch, lacks, has, Outcome, need, ends, fetch, go_on, tries, Known, or_lacks, first_lacking, Agrees, next_told, walk, all_told, at_place}
 
 module _ {K : Type 0} (l : Query → Fetch K) (f : Query → Known) (ok : Agrees l f) where
   -- one operation that asks m: h is the walk after it, r what the run after it comes to, qs what that asks

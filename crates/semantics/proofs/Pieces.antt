@@ -1,16 +1,16 @@
 -- An expression has no more operations than the pieces that it was read from, and a line no more than its pieces.
-use mathlib.Core.Path.{◌≡◌, refl, ap, sym, ◌∙◌}
+use mathlib.Core.Path.{◌≡◌, refl, ap}
 use mathlib.Core.Bool.{Bool, true, false}
-use mathlib.Core.List.{List, [], ◌∷◌, ◌++◌}
+use mathlib.Core.List.{List, [], ◌∷◌}
 use mathlib.Core.Option.{Option, some, none}
 use Prim.Native.Nat.{ℕ, zero, suc, ◌+◌, ◌*◌, ◌≤◌}
 use native.Mathlib.Omega.{arith}
 use lib.ListN.{length}
 use lib.Dec.{eqb}
-use Rattle.base.specs.Base.{pick, opt, when1, or_else, Word, same}
+use Rattle.base.specs.Base.{pick, opt, Word, same}
 use Rattle.lexer.specs.Tokens.{Tok, next, tail1}
 use Rattle.lexer.specs.Words.{op_at, compares, k_let, k_if, k_in, k_then, k_else, t_gets, t_rp, t_lp, t_comma, t_dot, is_name, is_number, digits, is_type, k_use, k_kind, k_rec, k_def}
-use Rattle.grammar.specs.Grammar.{E, e_num, e_name, e_call, e_field, e_op, e_if, e_let, e_par, Es, no, and_then, Got, it, bad, with1, eat, a_word, expr, begins, lets, ifs, level, more, fields, atom, calls, args, Field, Item, nothing, i_use, i_kind, i_rec, i_def, i_bad, names, field_list, params, ended, reads_use, reads_kind, reads_rec, reads_def, reads1, settled, item_of}
+use Rattle.grammar.specs.Grammar.{E, e_num, e_name, e_call, e_field, e_op, Es, no, and_then, Got, it, bad, with1, eat, a_word, expr, begins, lets, ifs, level, more, fields, atom, calls, args, Field, Item, i_use, i_kind, i_rec, i_def, names, field_list, params, ended, reads_use, reads_kind, reads_rec, reads_def, reads1, settled, item_of}
 use Rattle.grammar.specs.Code.{Op, o_result, o_body, onto, slots_onto, consts_code, item_code}
 use Rattle.semantics.proofs.Sizes.{none_left, pieces_of, args_of, few}
 

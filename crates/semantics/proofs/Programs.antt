@@ -1,15 +1,15 @@
 -- Programs that ask: a rule of an engine as one. Told the answers in the order in which it asks, a program asks for the next or ends;
 -- the walk over a line's code as a program, each thing that it asks being a program of its own over the engine's keys.
-use mathlib.Core.Path.{◌≡◌, refl, ap, sym, ◌∙◌}
-use mathlib.Core.Bool.{Bool, true, false}
-use mathlib.Core.List.{List, [], ◌∷◌, ◌++◌, append_assoc}
+use mathlib.Core.Path.{◌≡◌, refl, ap, ◌∙◌}
+use mathlib.Core.Bool.{false}
+use mathlib.Core.List.{List, [], ◌∷◌, ◌++◌}
 use mathlib.Core.Option.{Option, some, none}
-use Prim.Native.Nat.{ℕ, zero, suc, ◌+◌, ◌*◌, ◌≤◌}
+use Prim.Native.Nat.{ℕ, zero, suc, ◌*◌, ◌≤◌}
 use native.Mathlib.Omega.{arith}
 use lib.ListN.{length, take, length-append}
 use Rattle.base.specs.Base.{opt}
 use Rattle.grammar.specs.Code.{Op}
-use Rattle.semantics.specs.Walk.{State, Query, asks, step, told, run, asked, Known, k_yes, at_place}
+use Rattle.semantics.specs.Walk.{State, Query, asks, step, told, run, Known, k_yes, at_place}
 
 pub data Prog (K V A : Type 0) : Type 0 where
   ret : A → Prog K V A

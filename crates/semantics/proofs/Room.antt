@@ -1,19 +1,19 @@
 -- How much room a walk takes: for each operation one frame, two faults, one type, one link.
-use mathlib.Core.Path.{◌≡◌, refl, ap, sym, ◌∙◌}
+use mathlib.Core.Path.{◌≡◌, refl, ap}
 use mathlib.Core.Bool.{Bool, true, false, ◌||◌}
 use mathlib.Core.List.{List, [], ◌∷◌, ◌++◌}
 use mathlib.Core.Option.{Option, some, none}
-use Prim.Native.Nat.{ℕ, zero, suc, ◌+◌, ◌*◌, ◌≤◌}
+use Prim.Native.Nat.{ℕ, suc, ◌+◌, ◌*◌, ◌≤◌}
 use native.Mathlib.Omega.{arith}
 use lib.ListN.{length, length-append}
 use lib.Dec.{eqb, leb}
-use Rattle.base.specs.Base.{pick, opt, or_else, is_some, Word, same}
+use Rattle.base.specs.Base.{pick, opt, or_else, is_some, same}
 use Rattle.lexer.specs.Tokens.{Tok}
 use Rattle.lexer.specs.Words.{k_num, k_bool}
 use Rattle.grammar.specs.Code.{Op, o_num, o_name, o_call, o_arg, o_end, o_field, o_op, o_cond, o_if, o_bind, o_let, o_par, o_use, o_new, o_const, o_slot, o_result, o_body, o_bad}
 use Rattle.semantics.specs.Names.{Ty, t_num, t_bool, t_of, same_ty, Slot, Sig, s_unknown, s_several, s_type, s_const, s_rec, s_def}
-use Rattle.semantics.specs.Check.{Fault, Link, Said, said, fault, faults_in, types_in, links_in, ty_in, typed, Local, find, wants, of_slot, name_alone, Callee, calls_it, callee, of_record, both, op_type, count_fault, in_front, wrong, quiet, of_type, field_of, link_local}
-use Rattle.semantics.specs.Walk.{Frame, Output, State, top, pop, add, step, Known, the_sig, is_so, named, called, begins, op_faults_at, first_slot, tells, twice, state, Query, run, asks, told}
+use Rattle.semantics.specs.Check.{Fault, Link, Said, said, fault, faults_in, types_in, links_in, typed, Local, find, wants, of_slot, name_alone, Callee, calls_it, callee, of_record, both, op_type, count_fault, in_front, wrong, quiet, of_type, field_of, link_local}
+use Rattle.semantics.specs.Walk.{Frame, State, top, pop, add, step, Known, the_sig, is_so, named, called, begins, op_faults_at, first_slot, tells, twice, state, Query, run, asks, told}
 
 abbrev Small : ℕ → ℕ → Said → Type 0
 Small f t s = (length (faults_in s) ≤ f) × (length (types_in s) ≤ t) × (length (links_in s) ≤ 1)

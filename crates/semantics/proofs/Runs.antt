@@ -1,16 +1,16 @@
 -- The walk over an expression's code says what the definition says of the expression.
 use mathlib.Core.Path.{◌≡◌, refl, ap, sym, ◌∙◌}
-use mathlib.Core.Bool.{Bool, true, false}
+use mathlib.Core.Bool.{Bool, false}
 use mathlib.Core.List.{List, [], ◌∷◌, ◌++◌, append_assoc, append-nil}
 use mathlib.Core.Option.{Option, some, none}
-use Prim.Native.Nat.{ℕ, zero, suc, ◌+◌}
-use Rattle.base.specs.Base.{pick, opt, or_else, Word, same}
+use Prim.Native.Nat.{ℕ}
+use Rattle.base.specs.Base.{opt, Word}
 use Rattle.lexer.specs.Tokens.{Tok}
 use Rattle.grammar.specs.Grammar.{E, e_num, e_name, e_call, e_field, e_op, e_if, e_let, e_par, Es, no, and_then, from_of, to_of}
-use Rattle.grammar.specs.Code.{count, Op, o_num, o_name, o_call, o_arg, o_end, o_field, o_op, o_cond, o_if, o_bind, o_let, o_par, onto, ontos, code}
-use Rattle.semantics.specs.Names.{Ty, t_num, t_bool, t_of, Slot, Sig, s_unknown, s_several, s_type, s_const, s_rec, s_def}
-use Rattle.semantics.specs.Check.{Fault, Typed, Link, Said, said, fault, faults_in, types_in, links_in, ty_in, typed, Local, find, link_local, wants, of_slot, name_alone, Callee, calls_it, callee, of_record, both, op_type, count_fault, in_front, check, checks, quiet, join, wanted, with_call, with_field, with_op, with_if, with_let, second}
-use Rattle.semantics.specs.Walk.{Frame, Output, State, state, value, top, pop, add, pushed, says, tells, first_slot, op_faults_at, called, begins, named, Query, q_here, q_there, asks_name, asks_type, asks, step, told, run, asked, Fetch, lacks, has, Outcome, need, ends, fetch, go_on, tries, answer, Known, k_sig, k_yes, the_sig, is_so}
+use Rattle.grammar.specs.Code.{count, Op, o_arg, o_end, o_field, o_op, o_cond, o_if, o_bind, o_let, o_par, onto, ontos}
+use Rattle.semantics.specs.Names.{Ty, t_num, t_bool, t_of, Slot, Sig}
+use Rattle.semantics.specs.Check.{Fault, Typed, Link, Said, said, fault, ty_in, typed, Local, find, link_local, wants, of_slot, name_alone, Callee, calls_it, callee, of_record, count_fault, in_front, check, checks, quiet, join, wanted, with_call, with_field, with_op, with_if, with_let, second}
+use Rattle.semantics.specs.Walk.{Frame, Output, state, value, pop, add, pushed, says, tells, begins, Query, q_here, asks_type, step, told, run, answer, Known, k_yes, the_sig}
 
 -- lists
 pub cat_3 : {A : Type 0} (a b c d : List A) → ((a ++ b) ++ c) ++ d ≡ a ++ ((b ++ c) ++ d)

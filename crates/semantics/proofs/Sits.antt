@@ -1,21 +1,20 @@
 -- What is read from pieces that rise stands where they stand: an expression's places are in order, and its names are pieces.
-use mathlib.Core.Path.{◌≡◌, refl, sym, ap, subst, ◌∙◌}
-use mathlib.Core.Bool.{Bool, true, false, ◌||◌}
-use mathlib.Core.List.{List, [], ◌∷◌, ◌++◌}
+use mathlib.Core.Path.{◌≡◌, refl, ap, subst}
+use mathlib.Core.Bool.{Bool, true, false}
+use mathlib.Core.List.{List, [], ◌∷◌}
 use mathlib.Core.Logic.{◌⊎◌, inl, inr}
-use mathlib.Core.Option.{Option, some, none}
 use Prim.Native.Nat.{ℕ, zero, suc, ◌+◌, ◌*◌, ◌≤◌}
 use native.Mathlib.Omega.{arith}
 use lib.ListN.{length}
 use lib.Dec.{eqb}
-use Rattle.base.specs.Base.{pick, opt, Word, same}
+use Rattle.base.specs.Base.{pick, Word, same}
 use Rattle.lexer.specs.Tokens.{Tok, next, tail1, end_of}
 use Rattle.lexer.specs.Words.{op_at, compares, k_let, k_if, k_in, k_then, k_else, t_gets, t_rp, t_lp, t_comma, t_dot, is_name, is_number, digits, is_type, k_use, k_kind, k_rec, k_def}
-use Rattle.grammar.specs.Grammar.{E, e_num, e_name, e_call, e_field, e_op, e_if, e_let, e_par, Es, no, and_then, from_of, to_of, Got, it, bad, with1, eat, a_word, expr, begins, lets, ifs, level, more, fields, atom, calls, args, Field, Item, nothing, i_use, i_kind, i_rec, i_def, i_bad, names, field_list, params, ended, reads_use, reads_kind, reads_rec, reads_def, reads1, settled, item_of}
+use Rattle.grammar.specs.Grammar.{E, e_num, e_name, e_call, e_field, e_op, e_if, e_let, e_par, Es, no, and_then, from_of, to_of, Got, it, bad, eat, a_word, expr, begins, lets, ifs, level, more, fields, atom, calls, args, Field, Item, nothing, i_use, i_kind, i_rec, i_def, i_bad, names, field_list, params, ended, reads_use, reads_kind, reads_rec, reads_def, reads1, settled, item_of}
 use Rattle.grammar.specs.Theorems.{PieceAt}
 use Rattle.grammar.proofs.Places.{wrong_place}
 use Rattle.semantics.specs.Theorems.{Each, field_types}
-use Rattle.semantics.proofs.Lists.{each_cat, each_right, each_map}
+use Rattle.semantics.proofs.Lists.{each_right}
 use Rattle.semantics.proofs.Pieces.{Good, good_with, good_pick, good_opt}
 use Rattle.semantics.proofs.Gather.{field_names}
 

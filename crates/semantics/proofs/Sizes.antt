@@ -1,13 +1,10 @@
 -- How long an expression's code is: no longer than the pieces that it is written with.
-use mathlib.Core.Path.{◌≡◌, refl, ap, sym, ◌∙◌}
-use mathlib.Core.List.{List, [], ◌∷◌, ◌++◌}
-use mathlib.Core.Option.{Option, some, none}
-use Prim.Native.Nat.{ℕ, zero, suc, ◌+◌, ◌*◌, ◌≤◌}
+use mathlib.Core.List.{List, ◌∷◌}
+use Prim.Native.Nat.{ℕ, ◌+◌, ◌≤◌}
 use native.Mathlib.Omega.{arith}
-use lib.ListN.{length, length-append}
-use Rattle.lexer.specs.Tokens.{Tok}
+use lib.ListN.{length}
 use Rattle.grammar.specs.Grammar.{E, e_num, e_name, e_call, e_field, e_op, e_if, e_let, e_par, Es, no, and_then}
-use Rattle.grammar.specs.Code.{count, Op, o_num, o_name, o_call, o_arg, o_end, o_field, o_op, o_cond, o_if, o_bind, o_let, o_par, onto, ontos, code}
+use Rattle.grammar.specs.Code.{Op, o_arg, o_end, o_field, o_op, o_cond, o_if, o_bind, o_let, o_par, onto, ontos}
 
 -- how many operations: at most one for each piece of the expression. pieces_of counts the pieces that it is written with
 abbrev pub none_left : Es → ℕ

@@ -1,23 +1,23 @@
 -- All that is said of a line stands in it, and its links stand at names and go to what these mean.
-use mathlib.Core.Path.{◌≡◌, refl, sym, ap, subst, ◌∙◌}
+use mathlib.Core.Path.{◌≡◌, refl, subst}
 use mathlib.Core.Bool.{Bool, true, false, ◌||◌}
 use mathlib.Core.List.{List, [], ◌∷◌, ◌++◌}
-use mathlib.Core.Logic.{◌⊎◌, inl, inr}
+use mathlib.Core.Logic.{inl, inr}
 use mathlib.Core.Option.{Option, some, none}
-use Prim.Native.Nat.{ℕ, zero, suc, ◌+◌, ◌≤◌, ◌<◌}
+use Prim.Native.Nat.{ℕ, ◌≤◌, ◌<◌}
 use native.Mathlib.Omega.{arith}
 use lib.ListN.{length}
 use Rattle.base.specs.Base.{Word, same}
 use Rattle.lexer.specs.Tokens.{Tok, Line, pieces}
 use Rattle.lexer.specs.Words.{is_name, is_type, k_num, k_bool}
-use Rattle.lexer.specs.Theorems.{Lies, Rising}
+use Rattle.lexer.specs.Theorems.{Rising}
 use Rattle.lexer.proofs.Rises.{pieces_rise}
-use Rattle.grammar.specs.Grammar.{E, e_num, e_name, e_call, e_field, e_op, e_if, e_let, e_par, Es, no, and_then, from_of, to_of, Field, Item, nothing, i_use, i_kind, i_rec, i_def, i_bad, item}
+use Rattle.grammar.specs.Grammar.{E, e_num, e_name, e_call, e_field, e_op, e_if, e_let, e_par, Es, no, and_then, Field, Item, nothing, i_use, i_kind, i_rec, i_def, i_bad, item}
 use Rattle.semantics.specs.Names.{Sig}
-use Rattle.semantics.specs.Check.{Fault, Typed, Link, Local, Look, find, faults_in, types_in, links_in, ty_in, check, locals, of_item}
-use Rattle.semantics.specs.Theorems.{Each, One, Among, Part, part, parts, all_parts, item_parts, StandsIn, WithinLine, LinksMean, BoundInLine, Means, Leads, name_in, type_words, field_types}
+use Rattle.semantics.specs.Check.{Fault, Typed, Link, Local, Look, find, links_in, ty_in, check, locals, of_item}
+use Rattle.semantics.specs.Theorems.{Each, Among, Part, parts, all_parts, item_parts, StandsIn, WithinLine, LinksMean, BoundInLine, Means, Leads, name_in, type_words, field_types}
 use Rattle.semantics.proofs.Lists.{each_cat, each_map, each_of, each_at, one_of}
-use Rattle.semantics.proofs.Gather.{Says, Node, Faulty, On, Linked, item_says, Whole, item_tokens, field_names, token_in, TypeLinked, Uses, use_link}
+use Rattle.semantics.proofs.Gather.{Says, Node, Faulty, On, item_says, item_tokens, field_names, token_in, TypeLinked, Uses, use_link}
 use Rattle.semantics.proofs.Sits.{Sound, Rise, Named, Typeword, Fine, Fines, fine_sits, Placed, placed}
 
 -- the parts of an expression that stands in order stand in order

@@ -1,19 +1,19 @@
 -- The walk over a line's code says what the definition says of the line.
 use mathlib.Core.Path.{◌≡◌, refl, ap, sym, ◌∙◌}
-use mathlib.Core.Bool.{Bool, true, false, ◌||◌, ◌&&◌, not}
+use mathlib.Core.Bool.{Bool, true, false, ◌||◌, ◌&&◌}
 use mathlib.Core.List.{List, [], ◌∷◌, ◌++◌, append_assoc, append-nil}
 use mathlib.Core.Option.{Option, some, none}
-use Prim.Native.Nat.{ℕ, zero, suc, ◌+◌}
+use Prim.Native.Nat.{ℕ, zero, suc}
 use lib.Dec.{eqb, eqb-zero-suc, eqb-suc-zero, eqb-suc-suc}
-use Rattle.base.specs.Base.{pick, opt, is_some, any_of, Word, same, among}
+use Rattle.base.specs.Base.{pick, is_some, Word, same, among}
 use Rattle.lexer.specs.Tokens.{Tok}
 use Rattle.lexer.specs.Words.{k_num, k_bool}
 use Rattle.grammar.specs.Grammar.{E, from_of, to_of, Field, Item, nothing, i_use, i_kind, i_rec, i_def, i_bad}
-use Rattle.grammar.specs.Code.{Op, o_use, o_new, o_const, o_slot, o_result, o_body, o_bad, onto, item_code, consts_code, slots_onto}
-use Rattle.semantics.specs.Names.{Ty, t_num, t_bool, t_of, Slot, Sig, s_unknown, s_several, s_type, s_const, s_rec, s_def}
-use Rattle.semantics.specs.Check.{Fault, Typed, Link, Said, said, fault, faults_in, types_in, links_in, ty_in, Local, find, of_slot, check, quiet, join, wanted, wrong, of_type, again, new_names, of_fields, locals, of_def, of_item}
-use Rattle.semantics.specs.Walk.{Frame, Output, State, state, value, add, pushed, says, tells, Query, q_here, q_file, q_before, asks_word, asks, step, told, run, answer, Known, k_sig, k_yes, the_sig, is_so, twice, local_of, silent, start}
-use Rattle.semantics.proofs.Runs.{outs, check_runs, cat_2}
+use Rattle.grammar.specs.Code.{Op, o_result, o_body, onto, item_code, consts_code, slots_onto}
+use Rattle.semantics.specs.Names.{Ty, Sig, s_unknown, s_several, s_type, s_const, s_rec, s_def}
+use Rattle.semantics.specs.Check.{Fault, Typed, Link, Said, said, ty_in, Local, find, of_slot, check, quiet, join, wanted, wrong, of_type, again, new_names, of_fields, locals, of_def, of_item}
+use Rattle.semantics.specs.Walk.{Frame, Output, state, value, add, says, tells, Query, asks_word, told, run, answer, Known, the_sig, twice, local_of, silent, start}
+use Rattle.semantics.proofs.Runs.{check_runs}
 
 -- names seen
 eqb_sym : (m n : ℕ) → eqb m n ≡ eqb n m

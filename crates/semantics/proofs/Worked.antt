@@ -2,14 +2,14 @@
 use mathlib.Core.Path.{◌≡◌, refl, sym, ap, ◌∙◌}
 use mathlib.Core.Bool.{Bool, true, false, ◌&&◌, not, false≢true}
 use mathlib.Core.List.{List, [], ◌∷◌, ◌++◌, append_assoc, append-nil}
-use mathlib.Core.Option.{Option, some, none}
+use mathlib.Core.Option.{some}
 use Prim.Native.Nat.{ℕ, ◌+◌}
 use lib.ListN.{length}
 use lib.Dec.{eqb}
 use lib.Chars.{codes}
 use Rattle.base.specs.Base.{pick, Word}
 use Rattle.lexer.specs.Tokens.{Tok, tok, toks, gap, Line, cut, lines}
-use Rattle.grammar.specs.Grammar.{E, Es, no, and_then, e_num, e_name, e_call, e_field, e_op, e_if, e_let, e_par, Field, Item, nothing, i_use, i_kind, i_rec, i_def, i_bad, item_of}
+use Rattle.grammar.specs.Grammar.{no, and_then, e_num, e_name, e_call, e_field, e_op, e_if, e_let, e_par, Item, nothing, i_use, i_kind, i_rec, i_def, item_of}
 use Rattle.semantics.specs.Names.{File, Texts}
 use Rattle.semantics.specs.Answers.{faults, type_of, where_is}
 use Rattle.semantics.specs.Read.{Row, Source, rows_of, sources, r_faults, r_type_of, r_where_is}

@@ -1,10 +1,10 @@
 -- What is answered about texts, and how texts change.
-use Rattle.std.specs.Prelude.{Bool, true, false, ◌&&◌, ◌||◌, not, List, [], ◌∷◌, ◌++◌, ℕ, zero, suc, ◌+◌, ◌-◌, length, take, drop, eqb, ltb, leb}
+use Rattle.std.specs.Prelude.{Bool, ◌&&◌, List, [], ◌∷◌, ◌++◌, ℕ, ◌+◌, ◌-◌, length, take, drop, eqb, ltb, leb}
 use Rattle.std.proofs.Math.Option.{Option, some, none}
 use Rattle.base.specs.Base.{pick, opt, on_some, is_some, Word, same}
-use Rattle.lexer.specs.Tokens.{Tok, Line, lines, pieces}
+use Rattle.lexer.specs.Tokens.{Line, lines, pieces}
 use Rattle.grammar.specs.Grammar.{item_of}
-use Rattle.semantics.specs.Names.{File, Texts, find_file, Ty, t_num, t_bool, t_of, Decl, decls_item, Found, unknown, one, At, in_file, Sig, sig_of, sig}
+use Rattle.semantics.specs.Names.{File, Texts, find_file, Ty, t_num, t_bool, t_of, Decl, decls_item, unknown, one, in_file, Sig, sig_of, sig}
 use Rattle.semantics.specs.Check.{Fault, Typed, Link, Said, faults_in, types_in, links_in, of_item}
 
 abbrev pub there : Texts → Word → Word → Sig

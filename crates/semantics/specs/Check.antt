@@ -1,9 +1,9 @@
 -- What is wrong in a line, what type its expressions have, and what its names mean.
-use Rattle.std.specs.Prelude.{Bool, true, false, ◌&&◌, ◌||◌, not, List, [], ◌∷◌, ◌++◌, ℕ, zero, suc, ◌+◌, ◌-◌, length, eqb, ltb, leb}
+use Rattle.std.specs.Prelude.{Bool, ◌&&◌, not, List, [], ◌∷◌, ◌++◌, ℕ, length, eqb, leb}
 use Rattle.std.proofs.Math.Option.{Option, some, none}
-use Rattle.base.specs.Base.{pick, opt, on_some, or_else, when1, is_some, any_of, Word, same, among}
+use Rattle.base.specs.Base.{pick, opt, or_else, Word, same, among}
 use Rattle.lexer.specs.Tokens.{Tok}
-use Rattle.lexer.specs.Words.{k_num, k_bool, is_name}
+use Rattle.lexer.specs.Words.{k_num, k_bool}
 use Rattle.grammar.specs.Grammar.{E, e_num, e_name, e_call, e_field, e_op, e_if, e_let, e_par, Es, no, and_then, from_of, to_of, Field, Item, nothing, i_use, i_kind, i_rec, i_def, i_bad}
 use Rattle.grammar.specs.Code.{count}
 use Rattle.semantics.specs.Names.{Ty, t_num, t_bool, t_of, same_ty, Slot, Sig, s_unknown, s_several, s_type, s_const, s_rec, s_def}

@@ -1,10 +1,10 @@
 -- Files, what they declare, and what a name means in one.
-use Rattle.std.specs.Prelude.{Bool, true, false, ◌&&◌, ◌||◌, not, List, [], ◌∷◌, ◌++◌, ℕ, zero, suc, ◌+◌, length, eqb, ltb, leb}
+use Rattle.std.specs.Prelude.{Bool, true, false, ◌&&◌, ◌||◌, List, [], ◌∷◌, ◌++◌, ℕ, eqb}
 use Rattle.std.proofs.Math.Option.{Option, some, none}
-use Rattle.base.specs.Base.{pick, opt, on_some, or_else, when1, is_some, any_of, Word, same, among}
+use Rattle.base.specs.Base.{pick, opt, on_some, Word, same, among}
 use Rattle.lexer.specs.Tokens.{Tok, Line, lines, pieces}
 use Rattle.lexer.specs.Words.{k_num, k_bool}
-use Rattle.grammar.specs.Grammar.{item_of, Item, nothing, i_use, i_kind, i_rec, i_def, i_bad, Field, E}
+use Rattle.grammar.specs.Grammar.{item_of, Item, nothing, i_use, i_kind, i_rec, i_def, i_bad, Field}
 
 pub record File : Type 0 where
   pub name : Word

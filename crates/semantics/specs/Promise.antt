@@ -1,13 +1,12 @@
 -- What the walk over a line's code promises, whole.
-use Rattle.std.specs.Prelude.{◌≡◌, Bool, List, [], ◌∷◌, ◌++◌, ℕ, ◌≤◌, length}
-use Rattle.std.proofs.Math.Option.{Option, some, none}
+use Rattle.std.specs.Prelude.{◌≡◌, Bool, List, ◌≤◌, length}
 use Rattle.base.specs.Base.{opt, Word}
 use Rattle.lexer.specs.Tokens.{Line}
 use Rattle.grammar.specs.Grammar.{Item, item}
 use Rattle.grammar.specs.Code.{item_code}
 use Rattle.semantics.specs.Names.{Sig}
 use Rattle.semantics.specs.Check.{of_item}
-use Rattle.semantics.specs.Walk.{Query, Known, Fetch, Agrees, tries, Outcome, need, ends, first_lacking, asked, run, start, add, silent, answer}
+use Rattle.semantics.specs.Walk.{Query, Fetch, Agrees, tries, need, ends, first_lacking, asked, run, start, add, silent, answer}
 
 -- For every line, with whatever its names mean: where all is known, the walk over the line's code says what the definition says, in its
 -- order; where what is known agrees with that and not all is, it stops at the first thing of those that the whole walk asks that isn't

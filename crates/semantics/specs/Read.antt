@@ -1,12 +1,12 @@
 -- Files as they are read: of each line only where it begins, how long it is, and what it says. All answers, from files so read.
-use Rattle.std.specs.Prelude.{Bool, true, false, ◌&&◌, ◌||◌, not, List, [], ◌∷◌, ◌++◌, ℕ, zero, suc, ◌+◌, ◌-◌, length, eqb}
+use Rattle.std.specs.Prelude.{Bool, List, [], ◌∷◌, ◌++◌, ℕ, ◌+◌, ◌-◌, length, eqb}
 use Rattle.std.proofs.Math.Option.{Option, some, none}
 use Rattle.base.specs.Base.{pick, opt, on_some, is_some, Word, same}
 use Rattle.lexer.specs.Tokens.{Line, lines, pieces}
 use Rattle.lexer.specs.Words.{k_num, k_bool}
 use Rattle.grammar.specs.Grammar.{Item, item_of, Field}
 use Rattle.semantics.specs.Names.{File, Texts, Ty, t_num, t_bool, Decl, decls_item, find_decl, uses_item, adds, At, Found, unknown, several, one, found_type, Slot, Sig, s_unknown, s_several, s_type, s_const, s_rec, s_def}
-use Rattle.semantics.specs.Check.{Link, faults_in, types_in, links_in, of_item}
+use Rattle.semantics.specs.Check.{Link, types_in, links_in, of_item}
 use Rattle.semantics.specs.Answers.{names_of, Spoken, faults_of, line_at, smallest, type_words, link_at}
 
 -- a line as it's read, and a file

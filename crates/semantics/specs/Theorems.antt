@@ -5,8 +5,8 @@ use Rattle.base.specs.Base.{Word, same}
 use Rattle.lexer.specs.Tokens.{Tok, Line, pieces}
 use Rattle.lexer.specs.Words.{is_name}
 use Rattle.grammar.specs.Grammar.{E, e_num, e_name, e_call, e_field, e_op, e_if, e_let, e_par, Es, no, and_then, from_of, to_of, Field, Item, nothing, i_use, i_kind, i_rec, i_def, i_bad, item}
-use Rattle.semantics.specs.Names.{File, Texts, find_file, Ty, Slot, Sig, s_unknown, s_several, s_type, s_const, s_rec, s_def}
-use Rattle.semantics.specs.Check.{Fault, Typed, Link, Said, faults_in, types_in, links_in, ty_in, Local, find, Look, check, locals, of_item}
+use Rattle.semantics.specs.Names.{File, Texts, find_file, Ty, Sig, s_unknown, s_several, s_type, s_const, s_rec, s_def}
+use Rattle.semantics.specs.Check.{Fault, Typed, Link, faults_in, types_in, links_in, ty_in, Local, find, Look, check, locals, of_item}
 use Rattle.semantics.specs.Answers.{faults, type_of, where_is}
 use Rattle.semantics.specs.Read.{sources}
 

@@ -1,12 +1,11 @@
 -- The checker as one walk over a line's flat code: a stack of frames, the names bound, and an output that only grows.
 -- An operation may have to know one thing, its query; the same step serves a walk to which all is known, one that stops at the first
 -- thing that isn't, and one that is told answers in the order in which it asks.
-use Rattle.std.specs.Prelude.{◌≡◌, Bool, true, false, ◌&&◌, ◌||◌, not, List, [], ◌∷◌, ◌++◌, ℕ, zero, suc, ◌+◌, length, eqb, ltb, leb}
+use Rattle.std.specs.Prelude.{◌≡◌, Bool, false, ◌&&◌, ◌||◌, not, List, [], ◌∷◌, ◌++◌, ℕ, zero, suc, eqb, leb}
 use Rattle.std.proofs.Math.Option.{Option, some, none}
 use Rattle.base.specs.Base.{pick, opt, or_else, is_some, Word, same, among}
 use Rattle.lexer.specs.Tokens.{Tok}
 use Rattle.lexer.specs.Words.{k_num, k_bool}
-use Rattle.grammar.specs.Grammar.{Field}
 use Rattle.grammar.specs.Code.{Op, o_num, o_name, o_call, o_arg, o_end, o_field, o_op, o_cond, o_if, o_bind, o_let, o_par, o_use, o_new, o_const, o_slot, o_result, o_body, o_bad}
 use Rattle.semantics.specs.Names.{Ty, t_num, t_bool, t_of, Slot, Sig, s_unknown}
 use Rattle.semantics.specs.Check.{Fault, Typed, Link, Said, said, fault, faults_in, types_in, links_in, ty_in, typed, Local, find, link_local, wants, of_slot, name_alone, Callee, calls_it, callee, of_record, both, op_type, count_fault, in_front, wrong, quiet, of_type}

@@ -1,5 +1,5 @@
 -- Walks along a chain (starts, goes_on, none_left), and a number more in front of one (added).
-use Rattle.std.proofs.Common.{◌≡◌, ℕ, ◌+◌, ◌*◌, ◌%◌, ◌<◌, ◌≤◌, Bool, true, false, eqb, ◌⊎◌, List, [], ◌∷◌, length, get_or, take, drop, sym, refl, ap, ◌∙◌, subst, inl, inr, mod-lt, arith, eqb-true}
+use Rattle.std.proofs.Common.{◌≡◌, ℕ, ◌+◌, ◌*◌, ◌%◌, ◌<◌, ◌≤◌, Bool, true, false, eqb, ◌⊎◌, List, length, get_or, sym, refl, ap, ◌∙◌, subst, inl, inr, mod-lt, arith, eqb-true}
 use borrow.Author.Tests.{eqb-false}
 use Rattle.store.specs.Index.{hash_from, count, head, place, link, bytes_at, bytes, Chained, Sound, Live}
 

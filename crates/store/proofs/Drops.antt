@@ -8,7 +8,7 @@ use Rattle.base.specs.Base.{pick, same}
 use Rattle.semantics.specs.Names.{find_file}
 use Rattle.semantics.specs.Answers.{drops_file}
 use Rattle.store.specs.Lines.{Every}
-use Rattle.store.specs.Index.{bytes, Live, Sound}
+use Rattle.store.specs.Index.{bytes, Live}
 use Rattle.store.specs.Files.{file_at, entries, texts, name_at, others, FileOk, FileOfSays, Fits, IndexSays}
 use Rattle.store.proofs.Puts.{same_decides, differs}
 use Rattle.store.proofs.Tables.{entry_is, entries_long, other_name, none_in}

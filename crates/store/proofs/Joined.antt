@@ -1,5 +1,5 @@
 -- A text and its lines: joined again the lines are the text (joined_lines), an edit among some lines leaves the others (edit_middle).
-use Rattle.std.proofs.Common.{◌≡◌, ℕ, zero, suc, ◌+◌, ◌<◌, ◌≤◌, Bool, true, false, ◌&&◌, eqb, List, [], ◌∷◌, ◌++◌, map, length, take, drop, sym, refl, ap, ◌∙◌, subst, append_assoc, append-nil, arith, eqb-true}
+use Rattle.std.proofs.Common.{◌≡◌, ℕ, ◌+◌, ◌≤◌, Bool, true, false, ◌&&◌, eqb, List, [], ◌∷◌, ◌++◌, map, length, sym, refl, ap, ◌∙◌, append_assoc, append-nil, arith, eqb-true}
 use lib.Seq.{take-append-add, drop-append-add, take-append-le, drop-append-le}
 use Rattle.base.specs.Base.{pick}
 use Rattle.lexer.specs.Tokens.{cut, lines}

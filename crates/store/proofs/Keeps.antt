@@ -1,5 +1,5 @@
 -- Numbers kept in the fresh row with their bytes, and files moved to it one after the other.
-use Rattle.std.proofs.Common.{◌≡◌, ℕ, zero, suc, ◌+◌, ◌-◌, ◌*◌, ◌%◌, ◌<◌, ◌≤◌, Bool, true, false, ◌⊎◌, List, [], ◌∷◌, ◌++◌, map, length, get_or, take, drop, set, sym, refl, ap, ◌∙◌, subst, inl, inr, arith}
+use Rattle.std.proofs.Common.{◌≡◌, ℕ, ◌+◌, ◌<◌, ◌≤◌, Bool, true, false, List, [], ◌∷◌, ◌++◌, map, length, get_or, take, drop, set, sym, refl, ap, ◌∙◌, subst, inl, inr, arith}
 use Rattle.std.proofs.lemmas.List.{take_more, take_all, map_push, get_or-set_same, length-set}
 use Rattle.store.specs.Files.{texts, file_at, entries, file_is, FileOk, Fits, NoMore, PushSays}
 use Rattle.store.specs.Index.{count, end, place, bytes_at, bytes, Sound, Live}
@@ -8,7 +8,6 @@ use Rattle.store.specs.Lines.{joined, Every}
 use Rattle.store.specs.Reclaim.{Blank, Part, Kept, AllKept, Moved, MoveSays, SameTexts}
 use Rattle.store.proofs.Tables.{still, entry_is, entries_long}
 use Rattle.store.proofs.Joined.{map_same}
-use Rattle.store.proofs.Records.{every_at}
 use Rattle.store.proofs.Numbering.{every_still, every_push, pooled_on}
 
 module _ (nb cap : ℕ) (m w : List ℕ) (n : ℕ) (s : Sound nb cap m) (l : Live nb m n) (p : Part nb cap m w) where

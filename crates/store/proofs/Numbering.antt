@@ -1,5 +1,5 @@
 -- The lines of a text, one after the other, get numbers (begins, steps, ends).
-use Rattle.std.proofs.Common.{◌≡◌, ℕ, ◌+◌, ◌-◌, ◌<◌, ◌≤◌, Bool, true, false, List, [], ◌∷◌, ◌++◌, map, length, get_or, take, drop, set, sym, refl, ap, ◌∙◌, subst, append_assoc, append-nil, arith, le-ltb, lt-ltb}
+use Rattle.std.proofs.Common.{◌≡◌, ℕ, ◌+◌, ◌<◌, ◌≤◌, Bool, List, [], ◌∷◌, ◌++◌, map, length, take, set, sym, refl, ap, ◌∙◌, subst, append_assoc, append-nil, arith, le-ltb, lt-ltb}
 use Rattle.std.specs.List.{between}
 use Rattle.std.proofs.lemmas.List.{take_more_set, map_push, length-set}
 use Rattle.base.specs.Base.{pick}

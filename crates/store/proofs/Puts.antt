@@ -1,6 +1,6 @@
 -- Lists of files: a file put or dropped, by its place among them.
-use Rattle.std.proofs.Common.{◌≡◌, ℕ, zero, suc, Bool, true, false, List, [], ◌∷◌, ◌++◌, set, Decides, sym, refl, ap, ◌∙◌, rules}
-use mathlib.Core.Option.{Option, some, none}
+use Rattle.std.proofs.Common.{◌≡◌, ℕ, zero, suc, Bool, true, false, List, [], ◌∷◌, ◌++◌, set, Decides, refl, ap, ◌∙◌, rules}
+use mathlib.Core.Option.{some, none}
 use Rattle.std.proofs.lemmas.Slice.Eq.{compares_Decides}
 use Rattle.base.specs.Base.{pick, same}
 use Rattle.semantics.specs.Names.{Texts, find_file}

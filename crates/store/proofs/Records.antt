@@ -1,11 +1,11 @@
 -- A file's record behind the pool (appended), and files that stay as the pool grows (files_still).
-use Rattle.std.proofs.Common.{◌≡◌, ℕ, zero, suc, ◌+◌, ◌*◌, ◌%◌, ◌<◌, ◌≤◌, List, [], ◌∷◌, ◌++◌, map, length, get_or, take, drop, set, sym, refl, ap, ◌∙◌, subst, arith}
-use Rattle.std.proofs.lemmas.List.{get_or-set_same, get_or-set_other, length-set, get_or-take, ext_get_or, drop-set-lt, map-set, map_push, take_more_set, drop-set-add, take-set-le}
+use Rattle.std.proofs.Common.{◌≡◌, ℕ, zero, suc, ◌+◌, ◌*◌, ◌<◌, ◌≤◌, List, [], ◌∷◌, map, length, get_or, take, drop, set, sym, refl, ap, ◌∙◌, subst, arith}
+use Rattle.std.proofs.lemmas.List.{get_or-set_same, get_or-set_other, length-set, get_or-take, drop-set-lt}
 use Rattle.store.specs.Files.{file_at, FileOk, NoMore, Appended, file_is}
 use Rattle.store.specs.Index.{count, end, pool, place, bytes_at, bytes, Sound, Live, Grown, Pooled}
 use Rattle.store.specs.Lines.{joined, Every}
 use Rattle.store.proofs.Words.{bytes_same}
-use Rattle.store.proofs.Numbering.{every_still, every_push, pooled_on}
+use Rattle.store.proofs.Numbering.{every_still}
 use Rattle.store.proofs.Joined.{map_same}
 use Rattle.store.proofs.Still.{sound_still, grown_still, pooled_still}
 

@@ -1,5 +1,5 @@
 -- Words that the index doesn't speak of may change (sound_still).
-use Rattle.std.proofs.Common.{◌≡◌, ℕ, ◌+◌, ◌*◌, ◌%◌, ◌<◌, ◌≤◌, List, [], ◌∷◌, length, get_or, take, drop, sym, refl, ap, ◌∙◌, subst, mod-lt, arith}
+use Rattle.std.proofs.Common.{◌≡◌, ℕ, ◌+◌, ◌*◌, ◌%◌, ◌<◌, ◌≤◌, List, length, get_or, sym, ap, ◌∙◌, subst, mod-lt, arith}
 use Rattle.store.specs.Index.{hash_from, count, end, head, place, link, pool, bytes_at, bytes, Chained, Sound, Grown, Pooled}
 use Rattle.store.proofs.Words.{bytes_same}
 

@@ -1,6 +1,6 @@
 -- The table of files: a file replaced, a file more (replaced, pushed), and what that puts into the texts (put_there, put_last).
-use Rattle.std.proofs.Common.{◌≡◌, ℕ, zero, suc, ◌+◌, ◌-◌, ◌*◌, ◌%◌, ◌<◌, ◌≤◌, Bool, true, false, List, [], ◌∷◌, ◌++◌, map, length, get_or, take, drop, set, sym, refl, ap, ◌∙◌, subst, arith, length-drop}
-use mathlib.Core.Option.{Option, some, none}
+use Rattle.std.proofs.Common.{◌≡◌, ℕ, zero, suc, ◌+◌, ◌<◌, ◌≤◌, Bool, true, false, List, [], ◌∷◌, ◌++◌, map, length, get_or, take, drop, set, sym, refl, ap, ◌∙◌, subst, arith, length-drop}
+use mathlib.Core.Option.{some, none}
 use Rattle.std.proofs.lemmas.List.{get_or-set_same, get_or-set_other, length-set, get_or-take, get_or-drop, length-take-le, drop-set-lt, drop-set-add, map-set, map_push, take_more_set}
 use Rattle.base.specs.Base.{pick}
 use Rattle.semantics.specs.Answers.{puts_file}
@@ -12,8 +12,8 @@ use Rattle.store.specs.Lines.{bodies, joined, Every}
 use Rattle.lexer.specs.Tokens.{lines}
 use Rattle.store.proofs.Joined.{joined_lines}
 use Rattle.store.proofs.Puts.{First, puts_set, puts_new, differs}
-use Rattle.store.proofs.Numbering.{every_still, every_push, pooled_on}
-use Rattle.store.proofs.Records.{file_same, files_still, new_file, new_ok, every_set, every_at}
+use Rattle.store.proofs.Numbering.{every_push}
+use Rattle.store.proofs.Records.{files_still, new_file, new_ok, every_set, every_at}
 
 take_set_in : (n : ℕ) (l : List ℕ) (k p : ℕ) → take n (set l k p) ≡ set (take n l) k p
 take_set_in zero l k p = refl

@@ -1,5 +1,5 @@
 -- What a number's entry leaves in the words, and so that it is added rightly (made).
-use Rattle.std.proofs.Common.{◌≡◌, ℕ, ◌+◌, ◌-◌, ◌*◌, ◌%◌, ◌<◌, ◌≤◌, min, ◌⊎◌, List, [], ◌∷◌, length, get_or, take, drop, set, sym, refl, ap, ◌∙◌, subst, inl, inr, arith, length-drop, length-take}
+use Rattle.std.proofs.Common.{◌≡◌, ℕ, ◌+◌, ◌*◌, ◌%◌, ◌<◌, ◌≤◌, ◌⊎◌, List, length, get_or, take, drop, set, sym, refl, ap, ◌∙◌, subst, inl, inr, arith, length-drop}
 use Rattle.std.proofs.lemmas.List.{get_or-set_same, get_or-set_other, length-set, get_or-take, get_or-drop, ext_get_or, length-take-le, take-set, drop-set-lt}
 use Rattle.store.specs.Index.{hash_from, count, end, head, place, link, pool, bytes_at, bytes, entered, Sound, Live}
 use Rattle.store.specs.Interner.{CanAdd, Added, Interned}

@@ -1,5 +1,5 @@
 -- A text as the bytes of its lines, and the text again: the lines with a byte 10 between them.
-use Rattle.std.specs.Prelude.{ℕ, ◌+◌, Bool, true, false, ◌&&◌, List, [], ◌∷◌, ◌++◌, map, length, ◌==◌}
+use Rattle.std.specs.Prelude.{ℕ, ◌+◌, Bool, true, false, ◌&&◌, List, [], ◌∷◌, ◌++◌, length, ◌==◌}
 use Rattle.base.specs.Base.{pick}
 use Rattle.lexer.specs.Tokens.{Line}
 

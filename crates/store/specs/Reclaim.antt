@@ -1,5 +1,5 @@
 -- The same texts in a fresh row, with the same numbers for what is in use. m is the row that is left, w the fresh one.
-use Rattle.std.specs.Prelude.{◌≡◌, ℕ, ◌+◌, ◌<◌, ◌≤◌, Bool, true, false, List, [], ◌∷◌, ◌++◌, length}
+use Rattle.std.specs.Prelude.{◌≡◌, ℕ, ◌<◌, ◌≤◌, Bool, true, false, List, [], ◌∷◌, ◌++◌, length}
 use Rattle.store.specs.Lines.{Every}
 use Rattle.store.specs.Index.{count, pool, bytes, Sound, Live, Grown, Pooled}
 use Rattle.store.specs.Files.{texts, file_at, Fits}

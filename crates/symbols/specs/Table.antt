@@ -18,7 +18,7 @@
 --
 -- Declarations of a file stand one behind the other. All is read as it stands, 0 past the row's end: what the words say is defined for
 -- any row.
-use Rattle.std.specs.Prelude.{ℕ, zero, suc, ◌+◌, ◌-◌, ◌*◌, List, [], ◌∷◌, length, take, drop, slice_index}
+use Rattle.std.specs.Prelude.{ℕ, zero, suc, ◌+◌, ◌-◌, ◌*◌, List, [], ◌∷◌, take, drop, slice_index}
 use Rattle.base.specs.Base.{Word}
 use Rattle.lexer.specs.Tokens.{Tok, tok}
 use Rattle.grammar.specs.Grammar.{Field}

@@ -1,17 +1,16 @@
 -- Reading a line straight into code comes to the code of the item that is read.
-use Rattle.std.proofs.Common.{◌≡◌, ℕ, zero, suc, ◌+◌, ◌*◌, ◌<◌, ◌≤◌, Bool, true, false, List, [], ◌∷◌, ◌++◌, length, sym, refl, ap, ◌∙◌, subst, append_assoc, append-nil, arith}
+use Rattle.std.proofs.Common.{◌≡◌, ◌+◌, ◌*◌, Bool, true, false, List, [], ◌∷◌, ◌++◌, length, sym, refl, ap, ◌∙◌, append_assoc, append-nil, arith}
 use Rattle.base.specs.Base.{pick, Word, same}
 use Rattle.lexer.specs.Tokens.{Tok, next, tail1}
 use Rattle.lexer.specs.Words.{is_name, is_type, t_gets, t_lp, t_rp, t_comma, k_use, k_kind, k_rec, k_def}
-use Rattle.grammar.specs.Grammar.{E, Field, Item, i_use, i_kind, i_rec, i_def, Got, it, bad, with1, eat, a_word, expr, names, field_list, ended, reads_use}
-use Rattle.grammar.specs.Code.{Op, o_const, o_new, o_slot, o_result, o_body, o_use, onto, code, consts_code, slots_onto, item_code}
+use Rattle.grammar.specs.Grammar.{E, Field, Item, i_use, i_kind, i_rec, i_def, Got, it, bad, with1, eat, a_word, expr, ended, reads_use}
+use Rattle.grammar.specs.Code.{Op, o_const, o_new, o_slot, o_result, o_body, code, consts_code, slots_onto, item_code}
 use Rattle.grammar.proofs.Free.{an_expr, expr_free}
 use Rattle.grammar.proofs.Flat.{onto_is}
-use Rattle.grammar.proofs.Items.{a_names, a_list, names_eq, list_eq, b_names, b_list, a_params, a_kind, a_rec, a_def, an_item}
-use Rattle.syntax.specs.Wanted.{wants}
+use Rattle.grammar.proofs.Items.{a_names, a_list, names_eq, list_eq, a_params, a_kind, a_rec, a_def, an_item}
 use Rattle.syntax.specs.Reads.{word, entry, listed, after, then, ends, head, use_ops, start_ops, block_ops, params_ops, result_ops, body_ops, def_ops, item_ops, coded}
 use Rattle.syntax.specs.declared.wanted.Wanted.{Wanted}
-use Rattle.syntax.specs.declared.wanted.Wanted.TheVariants.{Name as AName, TypeWord as AType, Gets as AGets, Open as AOpen, Close as AClose, Comma as AComma}
+use Rattle.syntax.specs.declared.wanted.Wanted.TheVariants.{Name as AName, TypeWord as AType, Gets as AGets, Open as AOpen, Close as AClose}
 use Rattle.syntax.specs.declared.lists.Listed.{Listed}
 use Rattle.syntax.specs.declared.lists.Listed.TheVariants.{Names, Fields}
 

@@ -1,9 +1,9 @@
 -- A list read so far: what stands is its beginning, and the rest is still to be read.
-use Rattle.std.proofs.Common.{◌≡◌, ℕ, zero, suc, ◌+◌, ◌*◌, ◌<◌, ◌≤◌, Bool, true, false, List, [], ◌∷◌, ◌++◌, length, take, drop, sym, refl, ap, ◌∙◌, subst, append_assoc, append-nil, arith}
+use Rattle.std.proofs.Common.{◌≡◌, ℕ, zero, suc, ◌+◌, ◌<◌, ◌≤◌, true, false, List, [], ◌∷◌, ◌++◌, length, take, sym, refl, ap, ◌∙◌, append_assoc, append-nil, arith}
 use Rattle.base.specs.Base.{pick, same}
-use Rattle.lexer.specs.Tokens.{Tok, left, next, tail1}
+use Rattle.lexer.specs.Tokens.{left, next, tail1}
 use Rattle.lexer.specs.Words.{t_comma}
-use Rattle.lexer.specs.Seen.{SeenSays, NextAt}
+use Rattle.lexer.specs.Seen.{SeenSays}
 use Rattle.lexer.specs.declared.reader.Seen.{Seen}
 use Rattle.syntax.specs.Wanted.{fits}
 use Rattle.syntax.specs.declared.wanted.Wanted.TheVariants.{Comma}

@@ -1,7 +1,7 @@
 -- A line read so far, part by part: what stands is the code of its beginning, and what is still to be read is known.
-use Rattle.std.proofs.Common.{◌≡◌, ℕ, ◌<◌, ◌≤◌, List, [], ◌∷◌, ◌++◌, length, take, Ok, Err, sym, refl, ap, ◌∙◌, subst, append_assoc, append-nil}
+use Rattle.std.proofs.Common.{◌≡◌, ℕ, List, [], ◌∷◌, ◌++◌, take, Ok, sym, refl, ap, ◌∙◌, subst, append_assoc, append-nil}
 use Rattle.lexer.specs.Tokens.{Tok, left}
-use Rattle.grammar.specs.Grammar.{Got, it, bad, with1}
+use Rattle.grammar.specs.Grammar.{Got, it, bad}
 use Rattle.grammar.specs.Code.{Op, o_body}
 use Rattle.parser.specs.Rows.{ops_of}
 use Rattle.syntax.specs.Reads.{after, then, ends, start_ops, params_ops, result_ops, body_ops, def_ops, ReadsSays, BodySays}

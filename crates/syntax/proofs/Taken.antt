@@ -1,16 +1,15 @@
 -- What is wanted of a piece, asked of its token.
-use Rattle.std.proofs.Common.{◌≡◌, ℕ, ◌<◌, ◌≤◌, Bool, true, false, List, [], ◌∷◌, length, sym, refl, ap, ◌∙◌, subst}
+use Rattle.std.proofs.Common.{◌≡◌, ℕ, Bool, true, false, List, [], ◌∷◌, sym, refl, ap, ◌∙◌}
 use mathlib.Core.Bool.{false≢true}
-use Rattle.base.specs.Base.{pick, Word, same}
+use Rattle.base.specs.Base.{pick, Word}
 use Rattle.lexer.specs.Tokens.{Tok, left, piece, next}
-use Rattle.lexer.specs.Words.{is_name, is_type, t_gets, t_lp, t_rp, t_comma}
 use Rattle.lexer.specs.Kinds.{token_of}
-use Rattle.lexer.specs.Seen.{SeenSays, Stands, StandsIf, NextAt, NoneAt, is_end}
+use Rattle.lexer.specs.Seen.{SeenSays, StandsIf, NextAt, is_end}
 use Rattle.lexer.specs.declared.reader.Seen.{Seen}
 use Rattle.lexer.specs.declared.token.Token.{Token}
 use Rattle.lexer.specs.declared.token.Token.TheVariants.{Use, Kind, Rec, Def, Let, In, If, Then, Else, Num, Bool as TypeBool, Open, Close, Comma, Gets, Dot, Sign, Number, BadNumber, Name, Other, End}
-use Rattle.lexer.proofs.Facts.{Facts, facts, is_named, is_typed, is_gets, is_open, is_close, is_comma}
-use Rattle.grammar.specs.Grammar.{Got, it, bad, a_word}
+use Rattle.lexer.proofs.Facts.{facts, is_named, is_typed, is_gets, is_open, is_close, is_comma}
+use Rattle.grammar.specs.Grammar.{it, bad, a_word}
 use Rattle.syntax.specs.Wanted.{wants, fits}
 use Rattle.syntax.specs.Reads.{word}
 use Rattle.syntax.specs.declared.wanted.Wanted.{Wanted}

@@ -1,20 +1,20 @@
 -- From how a line begins and what was read behind its first word to what the line is.
-use Rattle.std.proofs.Common.{◌≡◌, ℕ, zero, suc, ◌+◌, ◌<◌, ◌≤◌, Bool, true, false, List, [], ◌∷◌, ◌++◌, length, Ok, Err, Result, sym, refl, ap, ◌∙◌, subst, arith}
+use Rattle.std.proofs.Common.{◌≡◌, ℕ, zero, suc, ◌≤◌, Bool, true, false, List, [], ◌∷◌, length, Ok, Err, Result, sym, refl, ap, ◌∙◌, subst, arith}
 use mathlib.Core.Bool.{false≢true}
 use Rattle.base.specs.Base.{pick, Word, same}
 use Rattle.lexer.specs.Tokens.{Tok, left, piece, next, end_of}
 use Rattle.lexer.specs.Words.{k_use, k_kind, k_rec, k_def, is_name, is_type, t_gets, t_lp, t_rp}
 use Rattle.lexer.specs.Kinds.{token_of}
-use Rattle.lexer.specs.Seen.{SeenSays, NextAt, NoneAt, Stands, StandsIf, is_end}
+use Rattle.lexer.specs.Seen.{SeenSays, NextAt, StandsIf, is_end}
 use Rattle.lexer.specs.declared.reader.Seen.{Seen}
 use Rattle.lexer.specs.declared.token.Token.{Token}
 use Rattle.lexer.specs.declared.token.Token.TheVariants.{Use, Kind, Rec, Def, Let, In, If, Then, Else, Num, Bool as TypeBool, Open, Close, Comma, Gets, Dot, Sign, Number, BadNumber, Name, Other, End}
 use Rattle.lexer.proofs.Facts.{facts, is_use, is_kind, is_rec, is_def}
-use Rattle.grammar.specs.Grammar.{Item, nothing, i_use, i_kind, i_rec, i_def, i_bad, Got, it, bad, with1, eat, a_word, ended, settled, item_of, reads_use}
+use Rattle.grammar.specs.Grammar.{Item, nothing, i_use, i_kind, i_rec, i_def, Got, it, bad, with1, eat, a_word, ended, settled, item_of}
 use Rattle.grammar.specs.Code.{Op, item_code}
 use Rattle.grammar.proofs.Free.{an_expr}
-use Rattle.grammar.proofs.Items.{an_item, a_kind, a_rec, a_def, a_names, a_list, a_params, item_free}
-use Rattle.lexer.specs.Theorems.{Rising, Lies}
+use Rattle.grammar.proofs.Items.{an_item, a_names, a_list, a_params, item_free}
+use Rattle.lexer.specs.Theorems.{Rising}
 use Rattle.lexer.proofs.Rises.{pieces_rise}
 use Rattle.syntax.specs.declared.wanted.Wrong.{Wrong}
 use Rattle.syntax.specs.Reads.{coded, item_ops, use_ops, block_ops, def_ops, ItemSays}

@@ -1,16 +1,16 @@
 -- A line read straight into flat code, and what the functions that do so promise. Only contracts of private functions cite the
 -- readings here; LineSays, the promise of the whole, speaks of `item_of` and `item_code` alone.
-use Rattle.std.specs.Prelude.{◌≡◌, ℕ, zero, suc, ◌+◌, ◌*◌, ◌<◌, ◌≤◌, Bool, true, false, ◌⊎◌, List, [], ◌∷◌, ◌++◌, length, take, drop, Ok, Err, Result}
-use Rattle.base.specs.Base.{pick, Word, same}
-use Rattle.lexer.specs.Tokens.{Tok, left, piece, next}
+use Rattle.std.specs.Prelude.{◌≡◌, ℕ, suc, ◌+◌, ◌*◌, ◌<◌, ◌≤◌, List, [], ◌∷◌, ◌++◌, length, Ok, Err, Result}
+use Rattle.base.specs.Base.{pick, same}
+use Rattle.lexer.specs.Tokens.{Tok, left, next}
 use Rattle.lexer.specs.Words.{k_use, k_kind, k_rec, k_def, t_rp}
-use Rattle.grammar.specs.Grammar.{E, Field, Item, Got, it, bad, with1, a_word, expr, names, field_list, item_of, nothing, i_bad}
+use Rattle.grammar.specs.Grammar.{Item, Got, it, bad, with1, a_word, expr, names, field_list}
 use Rattle.grammar.specs.Code.{Op as Flat, o_use, o_new, o_const, o_slot, o_result, o_body, code, consts_code, slots_onto, item_code}
 use Rattle.parser.specs.Rows.{ops_of, op_is, span_of}
 use Rattle.parser.specs.declared.code.Span.{Span}
 use Rattle.syntax.specs.Wanted.{wants}
 use Rattle.syntax.specs.declared.wanted.Wanted.{Wanted}
-use Rattle.syntax.specs.declared.wanted.Wanted.TheVariants.{Name as AName, TypeWord as AType, Gets as AGets, Open as AOpen, Close as AClose, Comma as AComma}
+use Rattle.syntax.specs.declared.wanted.Wanted.TheVariants.{Name as AName, TypeWord as AType, Gets as AGets, Open as AOpen, Close as AClose}
 use Rattle.syntax.specs.declared.lists.Listed.{Listed}
 use Rattle.syntax.specs.declared.lists.Listed.TheVariants.{Names, Fields}
 use Rattle.syntax.specs.declared.wanted.Wrong.{Wrong}

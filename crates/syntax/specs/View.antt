@@ -9,7 +9,6 @@ use Rattle.grammar.specs.Code.{Op as Flat, onto, consts_code, slots_onto, o_num,
 use Rattle.parser.specs.Rows.{ops, op_is, span_of}
 use Rattle.parser.specs.declared.code.Span.{Span}
 use Rattle.parser.specs.declared.code.Op.{Op}
-use Rattle.syntax.specs.declared.view.Ops.{Ops}
 use Rattle.syntax.specs.declared.view.Item.{Item}
 use Rattle.syntax.specs.declared.view.Item.TheVariants.{Nothing, Use, Kind, Record, Def, Bad}
 

@@ -1,6 +1,6 @@
 -- What is declared in the small world, in words and as the definitions have it.
 use Rattle.std.proofs.Common.{◌≡◌, ℕ, zero, suc, Bool, true, false, eqb, List, [], ◌∷◌, get_or, drop, Some, None, Option as Maybe, sym, refl, ap, ◌∙◌}
-use mathlib.Core.Option.{Option, some, none}
+use mathlib.Core.Option.{some, none}
 use Rattle.base.specs.Base.{pick, Word, same}
 use Rattle.semantics.specs.Names.{Slot}
 use Rattle.semantics.specs.Check.{field_of}

@@ -8,7 +8,7 @@
 use Rattle.std.specs.Prelude.{ℕ, Bool, true, false, ◌&&◌, List, [], ◌∷◌, Some, None, Option as Maybe, ◌==◌}
 use Rattle.std.proofs.Math.Option.{Option, some, none}
 use Rattle.base.specs.Base.{pick, Word, same}
-use Rattle.semantics.specs.Names.{Ty, t_num, t_bool, t_of, Slot, Sig, s_unknown, s_several}
+use Rattle.semantics.specs.Names.{Ty, t_num, t_bool, Slot, Sig, s_unknown, s_several}
 use Rattle.semantics.specs.Walk.{Query, q_here, q_there, q_file, q_before, k_sig, k_yes, Fetch, has}
 use Rattle.checker.specs.declared.lookup.Sort.{Sort}
 use Rattle.checker.specs.declared.lookup.Sort.TheVariants.{Kind, Const, Rec, Def}

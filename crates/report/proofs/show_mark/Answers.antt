@@ -1,4 +1,4 @@
-use Rattle.std.proofs.Common.{◌≡◌, ◌++◌, replicate, vec_items, ap, ◌∙◌, append_assoc}
+use Rattle.std.proofs.Common.{◌++◌, replicate, vec_items, ◌∙◌, append_assoc}
 use Rattle.report.proofs.show_mark.Goals as goal
 
 pub returns : goal.returns

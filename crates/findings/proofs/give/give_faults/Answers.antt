@@ -6,4 +6,4 @@ pub returns-then-n-out : goal.returns-then-n-out
 returns-then-n-out c = (sym (gathered_length c.args.words.now c.args.q c.args.n), omega arith, refl)
 
 pub loop-i-preserved : goal.loop-i-preserved
-loop-i-preserved c = gives_more c.args.words.now c.args.q c.loop-i.i c.args.out.now c.loop-i.out c.put-three.new.out c.loop-i.invariant c.put-three.ensures
+loop-i-preserved c = gives_more c.args.words.now c.args.q c.loop-i.i c.args.out.now c.loop-i.out c.put_three.new.out c.loop-i.invariant c.put_three.ensures

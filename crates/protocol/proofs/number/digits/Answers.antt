@@ -1,4 +1,4 @@
-use Rattle.std.proofs.Common.{sym, ◌∙◌}
+use Rattle.std.proofs.Common.{◌∙◌}
 use Rattle.protocol.proofs.Values.{step, stop, whole}
 use Rattle.protocol.proofs.number.digits.Goals as goal
 

@@ -1,5 +1,5 @@
 -- What is proved by hand of edit.
-use Rattle.std.proofs.Common.{◌≡◌, ℕ, List, sym, refl, ap, ◌∙◌, subst}
+use Rattle.std.proofs.Common.{ℕ, List, sym, subst}
 use Rattle.store.specs.Index.{Live}
 use Rattle.store.specs.Lines.{Every}
 use Rattle.store.proofs.Tables.{file_ok}

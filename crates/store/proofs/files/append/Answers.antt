@@ -1,5 +1,5 @@
 -- What is proved by hand of append.
-use Rattle.std.proofs.Common.{◌≡◌, ℕ, ◌+◌, ◌*◌, ◌%◌, ◌<◌, ◌≤◌, List, length, sym, refl, ap, ◌∙◌, subst, arith}
+use Rattle.std.proofs.Common.{ℕ, List, sym, subst, arith}
 use Rattle.store.specs.Files.{Appended}
 use Rattle.store.specs.Index.{end}
 use Rattle.store.proofs.Records.{appended}

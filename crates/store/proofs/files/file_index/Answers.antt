@@ -1,5 +1,5 @@
 -- What is proved by hand of file_index.
-use Rattle.std.proofs.Common.{arith, rules, below_more}
+use Rattle.std.proofs.Common.{arith, below_more}
 use Rattle.store.proofs.Tables.{record_in}
 use Rattle.store.proofs.files.file_index.Goals as goal
 

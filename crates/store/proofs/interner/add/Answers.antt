@@ -1,5 +1,5 @@
 -- What is proved by hand of add.
-use Rattle.std.proofs.Common.{◌≡◌, ℕ, ◌+◌, ◌*◌, ◌%◌, ◌<◌, ◌≤◌, ◌⊎◌, List, length, sym, refl, ap, ◌∙◌, subst, inl, inr, arith}
+use Rattle.std.proofs.Common.{◌≡◌, ℕ, ◌+◌, ◌%◌, ◌<◌, ◌≤◌, ◌⊎◌, List, length, sym, ap, ◌∙◌, subst, inl, inr, arith}
 use Rattle.store.specs.Index.{entered, end, count}
 use Rattle.store.proofs.Words.{Wrote, wrote, made}
 use Rattle.store.proofs.interner.add.Goals as goal

@@ -1,5 +1,5 @@
 -- What is proved by hand of find.
-use Rattle.std.proofs.Common.{◌≡◌, ℕ, ◌+◌, ◌*◌, ◌%◌, ◌<◌, ◌≤◌, length, get_or, sym, refl, ap, ◌∙◌, subst, arith, rules}
+use Rattle.std.proofs.Common.{◌≡◌, ℕ, ◌+◌, ◌%◌, ◌<◌, ◌≤◌, length, get_or, sym, ap, ◌∙◌, subst, arith}
 use Rattle.store.specs.Index.{place, head, bytes, bytes_at}
 use Rattle.store.proofs.Chains.{Walk, starts, goes_on, falls, none_left, head_in, row_in, bytes_in}
 use Rattle.store.proofs.interner.find.Goals as goal

@@ -1,5 +1,5 @@
 -- What is proved by hand of free_number.
-use Rattle.std.proofs.Common.{ℕ, ◌<◌, arith, rules, below_more}
+use Rattle.std.proofs.Common.{ℕ, ◌<◌, arith, below_more}
 use Rattle.store.specs.Index.{place}
 use Rattle.store.proofs.interner.free_number.Goals as goal
 

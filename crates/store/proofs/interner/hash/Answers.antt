@@ -1,5 +1,5 @@
 -- What is proved by hand of hash.
-use Rattle.std.proofs.Common.{◌≡◌, sym, refl, ◌∙◌, mod-lt, arith, rules}
+use Rattle.std.proofs.Common.{sym, ◌∙◌, arith}
 use Rattle.std.proofs.lemmas.List.{at_drop_more, at_drop_all}
 use Rattle.store.specs.Index.{hash_from}
 use Rattle.store.proofs.interner.hash.Goals as goal

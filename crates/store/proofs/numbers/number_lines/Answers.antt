@@ -1,7 +1,7 @@
 -- What is proved by hand of number_lines.
-use Rattle.std.proofs.Common.{◌≡◌, ℕ, ◌+◌, ◌<◌, ◌≤◌, List, length, sym, refl, ap, ◌∙◌, subst, arith, rules}
+use Rattle.std.proofs.Common.{◌≡◌, ℕ, ◌<◌, List, length, sym, subst, arith}
 use Rattle.store.specs.Index.{Sound, Grown, Pooled}
-use Rattle.store.proofs.Numbering.{Going, begins, steps, ends}
+use Rattle.store.proofs.Numbering.{begins, steps, ends}
 use Rattle.store.proofs.numbers.number_lines.Goals as goal
 
 pub lines-init : goal.lines-init

@@ -1,5 +1,5 @@
 -- What is proved by hand of clear.
-use Rattle.std.proofs.Common.{◌≡◌, ℕ, ◌<◌, length, get_or, sym, arith, rules}
+use Rattle.std.proofs.Common.{◌≡◌, ℕ, ◌<◌, length, get_or, arith, rules}
 use Rattle.store.proofs.Blank.{blank}
 use Rattle.store.proofs.reclaim.clear.Goals as goal
 

@@ -1,8 +1,8 @@
 -- What is proved by hand of keep_number.
-use Rattle.std.proofs.Common.{◌≡◌, ℕ, ◌+◌, ◌<◌, ◌≤◌, List, length, get_or, sym, refl, ap, ◌∙◌, subst, arith}
+use Rattle.std.proofs.Common.{ℕ, ◌+◌, ◌≤◌, List, length, get_or, sym, ap, ◌∙◌, subst, arith}
 use Rattle.store.specs.Index.{bytes_at}
 use Rattle.store.specs.Interner.{CanAdd, Added}
-use Rattle.store.proofs.Keeps.{there, can, did}
+use Rattle.store.proofs.Keeps.{can, did}
 use Rattle.store.proofs.reclaim.keep_number.Goals as goal
 
 pub bytes_from-key-requires : goal.bytes_from-key-requires

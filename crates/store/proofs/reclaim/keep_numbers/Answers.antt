@@ -1,5 +1,5 @@
 -- What is proved by hand of keep_numbers.
-use Rattle.std.proofs.Common.{◌≡◌, ℕ, List, sym, refl, ap, ◌∙◌, subst, arith}
+use Rattle.std.proofs.Common.{ℕ, List, subst, arith}
 use Rattle.std.proofs.lemmas.List.{take_all}
 use Rattle.store.specs.Index.{Live}
 use Rattle.store.specs.Reclaim.{AllKept}

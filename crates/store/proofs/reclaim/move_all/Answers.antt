@@ -1,5 +1,4 @@
 -- What is proved by hand of move_all.
-use Rattle.std.proofs.Common.{arith}
 use Rattle.store.proofs.Keeps.{moving_on, moved_all}
 use Rattle.store.proofs.Tables.{file_ok}
 use Rattle.store.proofs.reclaim.move_all.Goals as goal

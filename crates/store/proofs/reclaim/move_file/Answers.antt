@@ -1,5 +1,5 @@
 -- What is proved by hand of move_file.
-use Rattle.std.proofs.Common.{◌≡◌, ℕ, ◌+◌, List, get_or, sym, refl, ap, ◌∙◌, subst, arith}
+use Rattle.std.proofs.Common.{ℕ, List, get_or, sym, subst}
 use Rattle.store.specs.Files.{Fits, PushSays}
 use Rattle.store.specs.Index.{Live}
 use Rattle.store.specs.Lines.{Every}

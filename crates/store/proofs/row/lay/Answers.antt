@@ -1,6 +1,6 @@
 -- What is proved by hand of lay.
-use Rattle.std.proofs.Common.{arith, rules}
-use Rattle.std.proofs.lemmas.List.{take-set-le, get_or-set_same, length-set, places}
+use Rattle.std.proofs.Common.{rules}
+use Rattle.std.proofs.lemmas.List.{take-set-le, get_or-set_same, places}
 use Rattle.std.proofs.lemmas.Slice.{overwrites}
 use Rattle.store.proofs.row.lay.Goals as goal
 

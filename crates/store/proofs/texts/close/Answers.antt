@@ -1,5 +1,5 @@
 -- What is proved by hand of close.
-use Rattle.std.proofs.Common.{sym, refl, ap}
+use Rattle.std.proofs.Common.{sym, ap}
 use Rattle.base.specs.Base.{is_some}
 use Rattle.store.proofs.Puts.{finds_none}
 use Rattle.store.proofs.Tables.{file_ok, record_in}

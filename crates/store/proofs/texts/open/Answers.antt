@@ -1,5 +1,5 @@
 -- What is proved by hand of open.
-use Rattle.store.proofs.Tables.{Ready, stopped, ready, put_there, put_last}
+use Rattle.store.proofs.Tables.{stopped, ready, put_there, put_last}
 use Rattle.store.proofs.texts.open.Goals as goal
 
 pub returns-in_default-number_lines : goal.returns-in_default-number_lines

@@ -1,8 +1,7 @@
-use Rattle.std.proofs.Common.{◌≡◌, ◌+◌, ◌*◌, ◌++◌, length, take, sym, refl, ap, ◌∙◌, subst, arith}
+use Rattle.std.proofs.Common.{◌+◌, ◌*◌, ◌++◌, length, take, ap, ◌∙◌, arith}
 use Rattle.lexer.specs.Tokens.{left}
 use Rattle.grammar.specs.Grammar.{it, with1}
 use Rattle.grammar.specs.Code.{code}
-use Rattle.parser.specs.Rows.{ops_of}
 use Rattle.parser.proofs.Words.{ops_join, same_ops}
 use Rattle.parser.proofs.Loop.{left_short}
 use Rattle.syntax.proofs.Listing.{front_line, take_full}

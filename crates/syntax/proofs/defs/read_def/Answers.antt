@@ -1,9 +1,8 @@
-use Rattle.std.proofs.Common.{◌≡◌, [], ◌∷◌, ◌++◌, take, sym, refl, ap, ◌∙◌, subst, arith}
+use Rattle.std.proofs.Common.{◌≡◌, [], ◌∷◌, ◌++◌, take, sym, ap, ◌∙◌, subst, arith}
 use Rattle.std.proofs.lemmas.Result.{err_from_is_err_and}
 use Rattle.lexer.specs.Tokens.{left}
 use Rattle.grammar.specs.Grammar.{it, bad}
 use Rattle.grammar.specs.Code.{o_body}
-use Rattle.parser.specs.Rows.{ops_of}
 use Rattle.parser.proofs.Words.{ops_none}
 use Rattle.syntax.specs.Reads.{ends, def_ops}
 use Rattle.syntax.proofs.Listing.{front_line}

@@ -1,4 +1,4 @@
-use Rattle.std.proofs.Common.{◌≡◌, ◌<◌, ◌≤◌, [], ◌∷◌, ◌++◌, length, take, sym, refl, ap, ◌∙◌, subst, arith, rules}
+use Rattle.std.proofs.Common.{◌≡◌, ◌<◌, ◌≤◌, [], ◌∷◌, ◌++◌, length, take, sym, refl, ◌∙◌, subst, arith, rules}
 use Rattle.std.proofs.lemmas.Result.{err_from_is_err_and}
 use Rattle.lexer.specs.Tokens.{left}
 use Rattle.lexer.specs.Seen.{SeenSays}
@@ -6,7 +6,7 @@ use Rattle.grammar.specs.Grammar.{it, bad}
 use Rattle.parser.specs.Rows.{op_is}
 use Rattle.syntax.specs.Reads.{entry}
 use Rattle.syntax.proofs.lists.read_list.Goals as goal
-use Rattle.syntax.proofs.Listing.{Listing, begins, goes_wrong, ends_here, goes_on, front_line, no_comma, a_comma, take_most}
+use Rattle.syntax.proofs.Listing.{begins, goes_wrong, ends_here, goes_on, front_line, no_comma, a_comma, take_most}
 
 pub loop-entry-init : goal.loop-entry-init
 loop-entry-init c = (refl, refl, begins c.args.listed (take c.args.len c.args.words.now) c.args.base c.args.n c.args.from c.args.words.now, search rules, search rules)

@@ -1,4 +1,4 @@
-use Rattle.std.proofs.Common.{◌≡◌, [], take, sym, refl, ap, ◌∙◌, subst, append-nil, arith}
+use Rattle.std.proofs.Common.{[], take, sym, refl, ap, ◌∙◌, subst, append-nil, arith}
 use Rattle.base.specs.Base.{pick}
 use Rattle.lexer.specs.Tokens.{left}
 use Rattle.grammar.specs.Grammar.{it}

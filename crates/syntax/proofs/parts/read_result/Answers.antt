@@ -1,4 +1,4 @@
-use Rattle.std.proofs.Common.{◌≡◌, [], ◌∷◌, take, ap, ◌∙◌, arith}
+use Rattle.std.proofs.Common.{[], ◌∷◌, take, ap, ◌∙◌, arith}
 use Rattle.grammar.specs.Grammar.{it, with1}
 use Rattle.grammar.specs.Code.{o_result}
 use Rattle.parser.specs.Rows.{span_of}

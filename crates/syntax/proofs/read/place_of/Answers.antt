@@ -1,4 +1,4 @@
-use Rattle.std.proofs.Common.{◌≡◌, ◌-◌, ◌<◌, ◌≤◌, length, take, sym, ap, ◌∙◌, subst, arith}
+use Rattle.std.proofs.Common.{◌-◌, take, arith}
 use Rattle.syntax.proofs.Listing.{take_most}
 use Rattle.syntax.proofs.Whole.{end_within}
 use Rattle.syntax.proofs.read.place_of.Goals as goal

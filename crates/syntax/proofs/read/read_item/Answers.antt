@@ -1,12 +1,10 @@
-use Rattle.std.proofs.Common.{◌≡◌, [], ◌∷◌, ◌++◌, take, sym, refl, ap, ◌∙◌, subst, arith}
+use Rattle.std.proofs.Common.{◌++◌, take, sym, refl, ap, ◌∙◌, subst, arith}
 use Rattle.std.proofs.lemmas.Result.{err_from_is_err_and}
-use Rattle.lexer.specs.Tokens.{left, piece}
-use Rattle.grammar.specs.Grammar.{Got, it, bad, nothing}
-use Rattle.grammar.specs.Code.{Op, item_code}
-use Rattle.parser.specs.Rows.{ops_of}
+use Rattle.lexer.specs.Tokens.{left}
+use Rattle.grammar.specs.Code.{item_code}
 use Rattle.parser.proofs.Words.{ops_none}
-use Rattle.syntax.specs.Line.{Understood, ItemRead}
-use Rattle.syntax.specs.declared.start.Start.TheVariants.{Nothing, AUse, AKind, ARecord, ADef, NoItem}
+use Rattle.syntax.specs.Line.{Understood}
+use Rattle.syntax.specs.declared.start.Start.TheVariants.{AUse, AKind, ARecord, NoItem}
 use Rattle.syntax.proofs.Whole.{no_item, item_well, item_badly, item_other, def_read}
 use Rattle.syntax.proofs.read.read_item.Goals as goal
 

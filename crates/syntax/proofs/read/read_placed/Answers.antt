@@ -1,4 +1,4 @@
-use Rattle.std.proofs.Common.{◌≡◌, take, sym, ap, ◌∙◌, subst, arith}
+use Rattle.std.proofs.Common.{◌≡◌, ◌∙◌, subst}
 use Rattle.lexer.specs.Tokens.{left}
 use Rattle.grammar.specs.Grammar.{bad, settled, i_bad}
 use Rattle.syntax.proofs.Listing.{front_line}

@@ -1,6 +1,5 @@
-use Rattle.std.proofs.Common.{◌≡◌, [], length, take, vec_items, sym, refl, ap, ◌∙◌, subst}
+use Rattle.std.proofs.Common.{length, vec_items, refl, ◌∙◌}
 use Rattle.std.proofs.lemmas.Result.{err_from_is_err_and}
-use Rattle.helper.specs.Runs.{Runs, ends}
 use Rattle.helper.proofs.Steps.{turn, whole, started}
 use Rattle.helper.proofs.run.Transcript.run.Goals as goal
 

@@ -1,6 +1,6 @@
 use Rattle.std.proofs.Common.{refl, ◌∙◌, arith}
 use Rattle.std.proofs.lemmas.List.{at_drop_all}
-use Rattle.lexer.specs.Tokens.{gap, toks, left}
+use Rattle.lexer.specs.Tokens.{gap, toks}
 use Rattle.lexer.proofs.Places.{note_at}
 use Rattle.lexer.proofs.reader.Reader.next.Goals as goal
 use Rattle.lexer.proofs.reader.Reader.next.Goals.{then-from-line-via-then-from-line, then-from-line-via-else-from-line+then-line-from-eq-NOTE}

@@ -1,4 +1,4 @@
-use Rattle.std.proofs.Common.{◌-◌, ◌*◌, take, refl, ap, ◌∙◌, arith}
+use Rattle.std.proofs.Common.{◌*◌, take, refl, ap, ◌∙◌}
 use native.Mathlib.Nat.{sub-zero}
 use Rattle.parser.specs.Rows.{ops}
 use Rattle.syntax.proofs.Views.{ops_take}

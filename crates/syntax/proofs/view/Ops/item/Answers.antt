@@ -1,4 +1,4 @@
-use Rattle.std.proofs.Common.{◌≡◌, ◌∷◌, Some, sym, ap, ◌∙◌, subst}
+use Rattle.std.proofs.Common.{◌∷◌, Some, sym, ap, ◌∙◌, subst}
 use Rattle.grammar.specs.Code.{o_new}
 use Rattle.parser.specs.Rows.{ops, op_is, span_of}
 use Rattle.syntax.specs.View.{ViewSays}

@@ -1,4 +1,4 @@
-use Rattle.std.proofs.Common.{◌≡◌, drop, Some, sym, refl, ap, ◌∙◌, add-one}
+use Rattle.std.proofs.Common.{drop, Some, sym, refl, ap, ◌∙◌, add-one}
 use Rattle.grammar.specs.Code.{o_result}
 use Rattle.parser.specs.Rows.{ops}
 use Rattle.syntax.specs.View.{piece_of}

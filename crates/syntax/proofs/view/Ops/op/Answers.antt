@@ -1,4 +1,4 @@
-use Rattle.std.proofs.Common.{◌≡◌, Some, sym, ap, ◌∙◌, zero-add}
+use Rattle.std.proofs.Common.{Some, sym, ap, ◌∙◌, zero-add}
 use Rattle.syntax.proofs.Views.{ops_nth}
 use Rattle.syntax.proofs.view.Ops.op.Goals as goal
 

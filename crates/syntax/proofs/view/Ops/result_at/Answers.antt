@@ -1,4 +1,4 @@
-use Rattle.std.proofs.Common.{◌≡◌, ℕ, sym, ◌∙◌, arith}
+use Rattle.std.proofs.Common.{◌≡◌, ℕ, arith}
 use Rattle.syntax.proofs.Views.{nth_none}
 use Rattle.syntax.proofs.view.Ops.result_at.Goals as goal
 
