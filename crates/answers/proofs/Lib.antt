@@ -1,0 +1,6 @@
+pub mod Lines
+pub mod Slots
+pub mod Inspections
+pub mod Stepped
+pub mod Reviewed
+pub mod Going

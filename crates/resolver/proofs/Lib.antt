@@ -1,0 +1,4 @@
+pub mod Finds
+pub mod Means
+pub mod Loops
+pub mod Fields
