@@ -1,9 +1,32 @@
 -- What a number's entry leaves in the words, and so that it is added rightly (made).
-use Rattle.std.proofs.Common.{◌≡◌, ℕ, ◌+◌, ◌*◌, ◌%◌, ◌<◌, ◌≤◌, ◌⊎◌, List, length, get_or, take, drop, set, sym, refl, ap, ◌∙◌, subst, inl, inr, arith, length-drop}
+use Rattle.std.proofs.Common.{◌≡◌, ℕ, ◌+◌, ◌*◌, ◌%◌, ◌<◌, ◌≤◌, ◌⊎◌, ◌≢◌, List, length, get_or, take, drop, set, sym, refl, ap, ◌∙◌, subst, inl, inr, arith, length-drop}
 use Rattle.std.proofs.lemmas.List.{get_or-set_same, get_or-set_other, length-set, get_or-take, get_or-drop, ext_get_or, length-take-le, take-set, drop-set-lt}
-use Rattle.text_row.specs.Index.{hash_from, count, end, head, place, link, pool, bytes_at, bytes, entered, Sound, Live}
-use Rattle.text_row.specs.Interner.{CanAdd, Added, Interned}
+use Rattle.text_row.specs.Index.{hash_from, count, end, head, place, link, pool, bytes_at, bytes, entered, Sound, Live, Grown, Pooled}
+use Rattle.text_row.specs.Interner.{Interned}
 use Rattle.text_row.proofs.Chains.{alike, Adds, added, bucket_in}
+
+-- a number that is free or the next can get bytes that no number has
+pub record CanAdd (nb cap : ℕ) (m : List ℕ) (n : ℕ) (key : List ℕ) : Type 0 where
+  pub sound : Sound nb cap m
+  pub not_zero : 0 < n
+  pub next : n ≤ count m
+  pub in_cap : n < cap
+  pub unused : n < count m → place nb m n ≡ 0
+  pub new : (k : ℕ) → Live nb m k → bytes nb m k ≢ key
+  pub room : end m + 1 + length key ≤ length m
+
+-- it has them; no other number came, and those in use stand for what they stood for
+pub record Added (nb cap : ℕ) (m : List ℕ) (n : ℕ) (key m' : List ℕ) : Type 0 where
+  pub sound : Sound nb cap m'
+  pub live : Live nb m' n
+  pub bytes_n : bytes nb m' n ≡ key
+  pub grown : Grown nb m m'
+  pub pooled : Pooled nb cap m m'
+  pub only : (k : ℕ) → Live nb m' k → (k ≡ n) ⊎ Live nb m k
+  pub end_is : end m' ≡ end m + 1 + length key
+  pub count_most : count m' ≤ count m + 1
+  pub count_kept : n < count m → count m' ≡ count m
+  pub long : length m' ≡ length m
 
 -- bytes are the same where the words are
 pub bytes_same : (m m' : List ℕ) (lo hi p : ℕ) → length m' ≡ length m → lo ≤ p → p + 1 + get_or m p 0 ≤ hi → hi ≤ length m → ((i : ℕ) → lo ≤ i → i < hi → get_or m' i 0 ≡ get_or m i 0) → bytes_at m' p ≡ bytes_at m p
