@@ -29,7 +29,7 @@ answer_of ws k = value small (cells (take 16 ws)) k
 unfoldable pub goes_of : List ℕ → Key → ℕ
 goes_of ws k = (bring small (cells (take 16 ws)) (suc (small.rank k)) (kept (entries_of ws)) k).kept.goes
 
--- a key asked
-abbrev pub SaidSays : List ℕ → Key → Perhaps Said → Type 0
-SaidSays ws k (Some s) = (s.words ≡ length (answer_of ws k)) × (s.first ≡ slice_index (answer_of ws k) 0) × (s.told ≡ goes_of ws k)
-SaidSays ws k None = Unit {0}
+-- a key asked; or there was too little room, and the entries are as they were
+abbrev pub SaidSays : List ℕ → List ℕ → Key → Perhaps Said → Type 0
+SaidSays ws vs k (Some s) = (s.words ≡ length (answer_of ws k)) × (s.first ≡ slice_index (answer_of ws k) 0) × (s.told ≡ goes_of ws k)
+SaidSays ws vs k None = entries_of vs ≡ entries_of ws

@@ -69,7 +69,7 @@ fn first_word(row: &[u32], n: usize) -> u32
 pub fn ask(row: &mut [u32], k: &Key) -> Option<Said>
     requires { Ready row.old }
     ensures ready { Ready row.new }
-    ensures says { SaidSays row.old k.now result }
+    ensures says { SaidSays row.old row.new k.now result }
 {
     let mut rules = Small { told: 0 };
     let Some(words) = bring(row, CELLS, MEMO, &mut rules, &Cells {}, k) else {
