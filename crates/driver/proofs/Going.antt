@@ -180,7 +180,7 @@ module _ (b : Rules) (i : Inputs) (fall : Falls b) (k : Key) (es : List Entry) w
           marked = mk.0;
           entries1 = mk.1 ∙ g.entries1;
           before = gr.before ∙ g.before;
-          buckets = gr.keeps.buckets ∙ g.buckets;
+          buckets = gr.buckets ∙ g.buckets;
           count = omega (arith, p, q, ct);
           log = omega (arith, lt, sp, lg);
           free = g.free;

@@ -1,5 +1,5 @@
 -- Whatever is next, a turn in words is the machine's: from the four sorts of turns.
-use Rattle.std.proofs.Common.{◌≡◌, ℕ, ◌+◌, ◌-◌, ◌*◌, ◌<◌, ◌≤◌, true, false, List, [], ◌∷◌, length, take, drop, Some, None, Option as Perhaps, sym, ap, ◌∙◌, subst, inl, inr, arith, length-append, length-drop}
+use Rattle.std.proofs.Common.{◌≡◌, ℕ, ◌+◌, ◌-◌, ◌*◌, ◌<◌, ◌≤◌, true, false, List, [], ◌∷◌, length, get_or, take, drop, Some, None, Option as Perhaps, sym, ap, ◌∙◌, subst, inl, inr, arith, length-append, length-drop}
 use Rattle.std.proofs.lemmas.List.{length-take-le}
 use Rattle.base.specs.Base.{pick}
 use Rattle.engine.specs.declared.key.Key.{Key}
@@ -53,7 +53,7 @@ module _ (b : Rules) (i : Inputs) (known memo r f : ℕ) (ws : List ℕ) (area :
   still : (vs : List ℕ) → take memo vs ≡ take memo ws → Grown known memo ws vs
   still vs e =
       let q = same_memo known memo ws vs area.low e in
-      record { fits = subst Fits (sym q) area.fits; keeps = subst (Keeps ms) (sym q) (keeps_self ms); before = shorter known memo vs ws area.low e }
+      record { fits = subst Fits (sym q) area.fits; keeps = subst (Keeps ms) (sym q) (keeps_self ms); buckets = ap (λ v. get_or v 2 0) q; before = shorter known memo vs ws area.low e }
 
   as_much : (vs : List ℕ) → take memo vs ≡ take memo ws → spare ms ≡ 0 + spare (memo_in known memo vs)
   as_much vs e = let q = ap spare (same_memo known memo ws vs area.low e) in omega (arith, q)

@@ -108,5 +108,5 @@ module _ (known memo : ℕ) (ws₀ ws : List ℕ) (es : List Entry) (d n all : �
         before = s.before ∙ x.before;
         behind = s.behind ∙ x.behind;
         long = lv ∙ x.long;
-        buckets = s.keeps.buckets ∙ x.buckets;
+        buckets = s.buckets ∙ x.buckets;
       }

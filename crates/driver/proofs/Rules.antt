@@ -1,5 +1,5 @@
 -- A rule is told, and asks or is done, against the machine.
-use Rattle.std.proofs.Common.{◌≡◌, ℕ, ◌+◌, ◌-◌, ◌*◌, ◌<◌, ◌≤◌, List, length, take, drop, Some, None, Option as Perhaps, sym, refl, ap, ◌∙◌, subst, inl, inr, arith, length-drop}
+use Rattle.std.proofs.Common.{◌≡◌, ℕ, ◌+◌, ◌-◌, ◌*◌, ◌<◌, ◌≤◌, List, length, get_or, take, drop, Some, None, Option as Perhaps, sym, refl, ap, ◌∙◌, subst, inl, inr, arith, length-drop}
 use Rattle.std.proofs.lemmas.List.{length-take-le}
 use Rattle.engine.specs.declared.key.Key.{Key}
 use Rattle.engine.specs.declared.rules.Turn.{Turn}
@@ -46,12 +46,12 @@ module _ (b : Rules) (known memo r f : ℕ) (k : Key) (n from : ℕ) (ws us : Li
       ap (λ j. take j (drop (memo + from) ws)) y ∙ o.row1
 
   grown : (vs : List ℕ) → Grown known memo us vs → Grown known memo ws vs
-  grown vs g = record { fits = g.fits; keeps = subst (λ q. Keeps q (memo_in known memo vs)) memos g.keeps; before = g.before ∙ shorter known memo us ws area.low before }
+  grown vs g = record { fits = g.fits; keeps = subst (λ q. Keeps q (memo_in known memo vs)) memos g.keeps; buckets = g.buckets ∙ ap (λ v. get_or v 2 0) memos; before = g.before ∙ shorter known memo us ws area.low before }
 
   grown_same : (vs : List ℕ) → take memo vs ≡ take memo us → Grown known memo ws vs
   grown_same vs e =
       let q = same_memo known memo us vs area.low e in
-      grown vs (record { fits = subst Fits (sym q) area_then.fits; keeps = subst (Keeps (memo_in known memo us)) (sym q) (keeps_self (memo_in known memo us)); before = shorter known memo vs us area.low e })
+      grown vs (record { fits = subst Fits (sym q) area_then.fits; keeps = subst (Keeps (memo_in known memo us)) (sym q) (keeps_self (memo_in known memo us)); buckets = ap (λ v. get_or v 2 0) q; before = shorter known memo vs us area.low e })
 
   abbrev Says1 : Turn → Type 0
   Says1 t = (gs : List Got) → length gs ≡ n → take (r - from) (drop (memo + from) ws) ≡ row (answers gs) → RuleSays (b.next k (answers gs)) memo r f from ws us t

@@ -12,7 +12,7 @@ use Rattle.memo.specs.Says.{Keeps, StoreSays}
 use Rattle.memo.proofs.Rows.{gots_are, keys_long, row_whole}
 use Rattle.memo.proofs.Packs.{packed_long}
 use Rattle.memo.proofs.Puts.{take_puts}
-use Rattle.memo.proofs.Appends.{append_fits, append_says, append_keeps, refused, keeps_self}
+use Rattle.memo.proofs.Appends.{append_fits, append_says, append_keeps, append_buckets, refused, keeps_self}
 use Rattle.driver.specs.Says.{memo_in, StoredIn}
 use Rattle.driver.proofs.Words.{drop_past}
 use Rattle.driver.proofs.Memos.{memo_long}
@@ -81,7 +81,7 @@ module _ (known memo : ℕ) (ws : List ℕ) (low : known ≤ memo) (high : memo 
   long = 7 + (length ans + (length ks + length rs))
 
   pub put_refused : length ms - (3 + get_or ms 2 0 + get_or ms 0 0) < long → StoredIn known memo (made k ans (gots_of count ks rs)) ws ws false
-  put_refused h = record { fits = f; says = refused ms k ans count ks rs kl rl h; keeps = keeps_self ms; before = refl; behind = refl }
+  put_refused h = record { fits = f; says = refused ms k ans count ks rs kl rl h; keeps = keeps_self ms; buckets = refl; before = refl; behind = refl }
 
   pub put_done : (b : ℕ) → b ≡ bucket k (get_or ms 2 0) → b < get_or ms 2 0 → long ≤ length ms - (3 + get_or ms 2 0 + get_or ms 0 0)
       → (us vs : List ℕ) (p : ℕ) → p ≡ memo - get_or ms 0 0 - long → us ≡ puts p (packed k (get_or ms (3 + b) 0) ans count ks rs) ws
@@ -100,6 +100,7 @@ module _ (known memo : ℕ) (ws : List ℕ) (low : known ≤ memo) (high : memo 
         fits = subst Fits (sym mv) (append_fits ms f k ans count ks rs kl rl b eb fit);
         says = subst (λ v. StoreSays (made k ans (gots_of count ks rs)) ms v true) (sym mv) (append_says ms f k ans count ks rs kl rl b eb fit);
         keeps = subst (Keeps ms) (sym mv) (append_keeps ms f k ans count ks rs kl rl b eb fit);
+        buckets = ap (λ v. get_or v 2 0) mv ∙ append_buckets ms f k ans count ks rs kl rl b eb fit;
         before = pointed_before known memo b d d (get_or ms 1 0 + 1) us vs ev (omega arith) ∙ ap (take known) eu ∙ take_puts p part ws known (omega arith) (omega arith);
         behind = pointed_behind known memo b d d (get_or ms 1 0 + 1) us vs ev (omega arith) ∙ ap (drop memo) eu ∙ drop_past p part ws memo (omega arith) (omega arith);
       }

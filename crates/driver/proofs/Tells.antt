@@ -1,5 +1,5 @@
 -- A rule that asks, and a rule that is done, against the machine.
-use Rattle.std.proofs.Common.{◌≡◌, ℕ, ◌+◌, ◌-◌, ◌*◌, ◌<◌, ◌≤◌, Bool, true, false, ◌⊎◌, List, [], ◌∷◌, length, take, drop, sym, refl, ap, ◌∙◌, subst, inl, arith, length-drop}
+use Rattle.std.proofs.Common.{◌≡◌, ℕ, ◌+◌, ◌-◌, ◌*◌, ◌<◌, ◌≤◌, Bool, true, false, ◌⊎◌, List, [], ◌∷◌, length, get_or, take, drop, sym, refl, ap, ◌∙◌, subst, inl, arith, length-drop}
 use Rattle.std.proofs.lemmas.List.{drop-drop, drop-take, drop_at, take_at, take-take, length-take-le}
 use Rattle.engine.specs.declared.key.Key.{Key}
 use Rattle.engine.specs.Engine.{Ans, ask, done, Got, Kept, answers, store}
@@ -70,7 +70,7 @@ module _ (known memo r f : ℕ) (k : Key) (n from len : ℕ) (ws v1 : List ℕ) 
       let t = d.3 in
       let o = words_of (memo_in known memo ws) memo r f n from ws gs st area.high hf hn d.1 t in
       let x = s gs t.us o.frames (sym d.1) o.row1 in
-      (record { fits = x.fits; keeps = x.keeps; before = x.before }, inl x.says.1)
+      (record { fits = x.fits; keeps = x.keeps; buckets = x.buckets; before = x.before }, inl x.says.1)
 
   pub done_turn : (b : Bool) → b ≡ true → ((gs : List Got) (us : List ℕ) → deep f ws ≡ stacked gs us → length gs ≡ n → take (memo + r - (memo + from)) (drop (memo + from) ws) ≡ row (answers gs) → StoredIn known memo (made k ans gs) ws v1 b)
       → from + 1 + len + f ≤ length ws - memo
@@ -97,7 +97,7 @@ module _ (known memo r f : ℕ) (k : Key) (n from len : ℕ) (ws v1 : List ℕ) 
       let rows : take from (drop memo vs) ≡ t.vs = ap (take from) l.work ∙ shorter from (from + 1) v w1 (omega arith) below ∙ ap (take from) e1 ∙ o.below in
       let frames : deep (f - 3 * n) (drop memo vs) ≡ t.us = ap (deep (f - 3 * n)) l.work ∙ above ∙ ap (deep (f - 3 * n)) e1 ∙ o.rest in (
         a2,
-        record { fits = a2.fits; keeps = kp; before = shorter known memo vs v1 area.low l.before ∙ x.before },
+        record { fits = a2.fits; keeps = kp; buckets = ap (λ v. get_or v 2 0) en ∙ x.buckets; before = shorter known memo vs v1 area.low l.before ∙ x.before },
         (
           sym al,
           ap (λ q. take len (drop (from + 1) q)) l.work ∙ is ∙ ap (λ q. take len (drop r q)) e1 ∙ ap (take len) (drop-drop r memo ws),

@@ -1,6 +1,6 @@
 -- What the words and the state between turns stand for, as a state of the machine. ms is the memo, w the work area, with r words of rows
 -- and f words of frames.
-use Rattle.std.specs.Prelude.{◌≡◌, ℕ, ◌+◌, ◌-◌, ◌*◌, ◌<◌, ◌≤◌, ◌⊎◌, List, [], ◌∷◌, length, take, drop, Some, None, Option as Perhaps}
+use Rattle.std.specs.Prelude.{◌≡◌, ℕ, ◌+◌, ◌-◌, ◌*◌, ◌<◌, ◌≤◌, ◌⊎◌, List, [], ◌∷◌, length, take, drop, Some, None, Option as Perhaps, slice_index}
 use Rattle.std.proofs.Math.Option.{some}
 use Rattle.engine.specs.declared.key.Key.{Key}
 use Rattle.engine.specs.Engine.{Ans, Then, ask, done, Rules, answers, Kept, Entry, Got, find}
@@ -61,6 +61,7 @@ AskSays known memo r f k n from q ws vs None = (take memo vs ≡ take memo ws) �
 pub record Grown (known memo : ℕ) (ws vs : List ℕ) : Type 0 where
   pub fits : Fits (memo_in known memo vs)
   pub keeps : Keeps (memo_in known memo ws) (memo_in known memo vs)
+  pub buckets : slice_index (memo_in known memo vs) 2 ≡ slice_index (memo_in known memo ws) 2
   pub before : take known vs ≡ take known ws
 
 -- a rule is done, with the answer a of n words behind its row: where the machine stands then; or there was too little room in the memo,

@@ -1,5 +1,5 @@
 -- What the functions of the work area promise. ws is the row before, vs the row after.
-use Rattle.std.specs.Prelude.{◌≡◌, ℕ, ◌+◌, ◌-◌, ◌<◌, ◌≤◌, Bool, List, ◌∷◌, ◌++◌, length, take, drop, Some, None, Option as Perhaps}
+use Rattle.std.specs.Prelude.{◌≡◌, ℕ, ◌+◌, ◌-◌, ◌<◌, ◌≤◌, Bool, List, ◌∷◌, ◌++◌, length, take, drop, Some, None, Option as Perhaps, slice_index}
 use Rattle.base.specs.Base.{same}
 use Rattle.engine.specs.Engine.{Ans, Got, Entry}
 use Rattle.memo.specs.Log.{Fits, entry_at}
@@ -36,5 +36,6 @@ pub record StoredIn (known memo : ℕ) (e : Entry) (ws vs : List ℕ) (r : Bool)
   pub fits : Fits (memo_in known memo vs)
   pub says : StoreSays e (memo_in known memo ws) (memo_in known memo vs) r
   pub keeps : Keeps (memo_in known memo ws) (memo_in known memo vs)
+  pub buckets : slice_index (memo_in known memo vs) 2 ≡ slice_index (memo_in known memo ws) 2
   pub before : take known vs ≡ take known ws
   pub behind : drop memo vs ≡ drop memo ws

@@ -57,9 +57,9 @@ pub reach_low : (ws : List ℕ) (f : Fits ws) {m : ℕ} (d : ℕ) → Reaches (g
 reach_low ws f d r e = let s = (reach_suffix (get_or ws 2 0) f.logged r).short in let x = deep_long ws (get_or ws 0 0) (omega arith) in omega arith
 
 -- one record more: all that stood still stands
-pub keeps_more : (ws vs l : List ℕ) → Fits ws → get_or vs 2 0 ≡ get_or ws 2 0 → get_or vs 1 0 ≡ suc (get_or ws 1 0) → log vs ≡ l → older l ≡ log ws → ((d : ℕ) → d ≤ get_or ws 0 0 → deep d vs ≡ deep d ws) → Keeps ws vs
+pub keeps_more : (ws vs l : List ℕ) → Fits ws → get_or vs 1 0 ≡ suc (get_or ws 1 0) → log vs ≡ l → older l ≡ log ws → ((d : ℕ) → d ≤ get_or ws 0 0 → deep d vs ≡ deep d ws) → Keeps ws vs
 unfolding entry_at entries_at
-keeps_more ws vs l f eb en el eo same = record { records1 = rec1; looks = look1; marks = mark1; buckets = eb }
+keeps_more ws vs l f en el eo same = record { records1 = rec1; looks = look1; marks = mark1 }
   where
     up : (m d : ℕ) → Reaches (get_or ws 1 0) (log ws) m (deep d ws) → d ≤ get_or ws 0 0 → Reaches (get_or vs 1 0) (log vs) m (deep d vs)
     up m d r h =
@@ -173,7 +173,10 @@ module _ (ws : List ℕ) (f : Fits ws) (k : Key) (ans : List ℕ) (c : ℕ) (key
   append_fits = let x = vs_long in let r = f.room in refit vs (get_or ws 2 0) (suc (get_or ws 1 0)) (get_or ws 0 0 + long) l v2 v1 v0 new_log f.buckets (omega arith) new_index new_logged
 
   pub append_keeps : Keeps ws vs
-  append_keeps = keeps_more ws vs l f v2 v1 (log_is vs (get_or ws 2 0) (suc (get_or ws 1 0)) (get_or ws 0 0 + long) l v2 v1 v0 new_log) old_log old_part
+  append_keeps = keeps_more ws vs l f v1 (log_is vs (get_or ws 2 0) (suc (get_or ws 1 0)) (get_or ws 0 0 + long) l v2 v1 v0 new_log) old_log old_part
+
+  pub append_buckets : get_or vs 2 0 ≡ get_or ws 2 0
+  append_buckets = v2
 
   pub append_says : StoreSays (made k ans (gots_of c keys row)) ws vs true
   unfolding spare kept_entries
@@ -194,7 +197,7 @@ unfolding spare
 refused ws k ans c keys row kl rl h = let s = entry_sum k 0 ans c keys row [] kl rl in (refl, omega arith)
 
 pub keeps_self : (ws : List ℕ) → Keeps ws ws
-keeps_self ws = record { records1 = λ d r. (r, refl); looks = λ d i q r. r; marks = λ m r. (r, refl); buckets = refl }
+keeps_self ws = record { records1 = λ d r. (r, refl); looks = λ d i q r. r; marks = λ m r. (r, refl) }
 
 -- a record has words, so there are fewer records than words
 pub few : (b n : ℕ) (ws : List ℕ) → Logged b n ws → n ≤ length ws

@@ -61,11 +61,14 @@ module _ (ws : List ℕ) (f : Fits ws) (n : ℕ) (en : get_or ws 1 0 ≡ suc n) 
   pub pop_fits : Fits vs
   pop_fits = let x = vs_long in let r = f.room in refit vs (get_or ws 2 0) n (get_or ws 0 0 - size (log ws)) (older (log ws)) v2 v1 v0 new_log f.buckets (omega arith) new_index logged1.1
 
+  pub pop_buckets : get_or vs 2 0 ≡ get_or ws 2 0
+  pop_buckets = v2
+
   pub pop_popped : Popped ws vs
   pop_popped =
       let s = sized in
       let x = v0 in
-      record { count = en ∙ ap suc (sym v1); log1 = log_is vs (get_or ws 2 0) n (get_or ws 0 0 - size (log ws)) (older (log ws)) v2 v1 v0 new_log; deep1 = kept_deep; shorter = omega arith; buckets = v2 }
+      record { count = en ∙ ap suc (sym v1); log1 = log_is vs (get_or ws 2 0) n (get_or ws 0 0 - size (log ws)) (older (log ws)) v2 v1 v0 new_log; deep1 = kept_deep; shorter = omega arith }
 
 -- whether a mark is reached
 pub over : (b : ℕ) {n m : ℕ} {ws l : List ℕ} → Logged b n ws → Reaches n ws m l → length ws ≤ length l → (n ≡ m) × (ws ≡ l)

@@ -24,12 +24,11 @@ pub record GotSays (ws : List ℕ) (d i : ℕ) (k : Key) (a : Ans) (next : ℕ) 
   pub is : drop i (entry_at ws d).gots ≡ record { key = k; ans = a } ∷ drop (i + 1) (entry_at ws d).gots
   pub looks : Looks ws d (i + 1) next
 
--- from ws to vs all that stood stands: depths, places of readers and marks stay good, and there are as many buckets
+-- from ws to vs all that stood stands: depths, places of readers and marks stay good
 pub record Keeps (ws vs : List ℕ) : Type 0 where
   pub records1 : (d : ℕ) → Record ws d → Record vs d × (entry_at vs d ≡ entry_at ws d)
   pub looks : (d i q : ℕ) → Looks ws d i q → Looks vs d i q
   pub marks : (m : Mark) → Marked ws m → Marked vs m × (entries_at vs m ≡ entries_at ws m)
-  pub buckets : slice_index vs 2 ≡ slice_index ws 2
 
 -- an entry stored as a record more; or there was too little room, and nothing changed
 abbrev pub StoreSays : Entry → List ℕ → List ℕ → Bool → Type 0
@@ -42,7 +41,6 @@ pub record Popped (ws vs : List ℕ) : Type 0 where
   pub log1 : log vs ≡ older (log ws)
   pub deep1 : (d : ℕ) → d ≤ slice_index ws 0 → deep d vs ≡ deep d ws
   pub shorter : slice_index_or vs 0 0 < slice_index ws 0
-  pub buckets : slice_index vs 2 ≡ slice_index ws 2
 
 -- an empty memo, and the room that it has; or there were fewer than four words
 abbrev pub Created : List ℕ → List ℕ → Bool → Type 0

@@ -55,6 +55,7 @@ pub fn append(
     ensures fits { Fits words.new }
     ensures says { StoreSays (made k.now ans.now (gots_of count keys.now row.now)) words.old words.new result }
     ensures keeps { Keeps words.old words.new }
+    ensures buckets { slice_index words.new 2 ≡ slice_index words.old 2 }
 {
     let depth = words[0] as usize;
     let buckets = words[2] as usize;

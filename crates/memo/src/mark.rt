@@ -43,6 +43,7 @@ fn pop(words: &mut [u32])
     requires { (Fits words.old) × (0 < slice_index words.old 1) }
     ensures fits { Fits words.new }
     ensures popped { Popped words.old words.new }
+    ensures buckets { slice_index words.new 2 ≡ slice_index words.old 2 }
 {
     let depth = words[0] as usize;
     let count = words[1];

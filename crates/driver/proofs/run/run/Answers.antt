@@ -112,7 +112,7 @@ returns-in_default-turn g c =
       book1 = c.in_default-turn.ensures.book1 ∙ c.loop-n.invariant.1;
       fits = subst Fits (sym l.memo1) c.roll_back.ensures.fits;
       before = l.before ∙ y.before ∙ iv.before;
-      buckets = ap (λ q. get_or q 2 0) l.memo1 ∙ c.roll_back.ensures.buckets ∙ y.keeps.buckets ∙ iv.buckets;
+      buckets = ap (λ q. get_or q 2 0) l.memo1 ∙ c.roll_back.ensures.buckets ∙ y.buckets ∙ iv.buckets;
       runs1 = omega (arith, n, kl, told, few);
       says = (
         ap kept_entries l.memo1 ∙ c.roll_back.ensures.is ∙ (y.keeps.marks c.take_mark-mark.result iv.marked).1 ∙ iv.entries1,

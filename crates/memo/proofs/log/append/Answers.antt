@@ -1,10 +1,10 @@
 -- What is proved by hand of append.
-use Rattle.std.proofs.Common.{◌+◌, true, length, get_or, sym, ap, ◌∙◌, subst, arith}
+use Rattle.std.proofs.Common.{◌+◌, true, length, get_or, sym, refl, ap, ◌∙◌, subst, arith}
 use Rattle.memo.specs.Record.{made, gots_of}
 use Rattle.memo.specs.Log.{Fits, pointed, log}
 use Rattle.memo.specs.Says.{Keeps, StoreSays}
 use Rattle.memo.proofs.Places.{deep_long}
-use Rattle.memo.proofs.Appends.{append_fits, append_says, append_keeps, refused, keeps_self, few}
+use Rattle.memo.proofs.Appends.{append_fits, append_says, append_keeps, append_buckets, refused, keeps_self, few}
 use Rattle.memo.proofs.log.append.Goals as goal
 
 pub returns-then-words-buckets : goal.returns-then-words-buckets
@@ -13,6 +13,7 @@ returns-then-words-buckets c =
       fits = c.requires.fits;
       says = refused c.args.words.now c.args.k.now c.args.ans.now c.args.count c.args.keys.now c.args.row.now c.requires.asked.0 c.requires.asked.1 c.if-words-buckets.true;
       keeps = keeps_self c.args.words.now;
+      buckets = refl;
     }
 
 pub overflow_add-records : goal.overflow_add-records
@@ -41,4 +42,5 @@ returns c =
       fits = subst Fits (sym e) (append_fits ws c.requires.fits k ans n keys row c.requires.asked.0 c.requires.asked.1 b eb fit);
       says = subst (λ v. StoreSays (made k ans (gots_of n keys row)) ws v true) (sym e) (append_says ws c.requires.fits k ans n keys row c.requires.asked.0 c.requires.asked.1 b eb fit);
       keeps = subst (Keeps ws) (sym e) (append_keeps ws c.requires.fits k ans n keys row c.requires.asked.0 c.requires.asked.1 b eb fit);
+      buckets = ap (λ v. get_or v 2 0) e ∙ append_buckets ws c.requires.fits k ans n keys row c.requires.asked.0 c.requires.asked.1 b eb fit;
     }

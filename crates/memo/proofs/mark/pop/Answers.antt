@@ -2,7 +2,7 @@
 use Rattle.std.proofs.Common.{◌≡◌, suc, ◌-◌, get_or, sym, ap, ◌∙◌, subst, arith}
 use Rattle.memo.specs.Log.{Fits, pointed, bucket}
 use Rattle.memo.specs.Says.{Popped}
-use Rattle.memo.proofs.Pops.{sized, pop_fits, pop_popped}
+use Rattle.memo.proofs.Pops.{sized, pop_fits, pop_popped, pop_buckets}
 use Rattle.memo.proofs.mark.pop.Goals as goal
 
 pub size_at-size-requires : goal.size_at-size-requires
@@ -47,4 +47,4 @@ returns c =
     let ep = c.word-prev.ensures in
     let es = c.size_at-size.ensures in
     let e = c.point.ensures ∙ (λ t. pointed ws (eb t) (ep t) (get_or ws 0 0 - es t) n) in
-    record { fits = subst Fits (sym e) (pop_fits ws c.requires.0 n en); popped = subst (Popped ws) (sym e) (pop_popped ws c.requires.0 n en) }
+    record { fits = subst Fits (sym e) (pop_fits ws c.requires.0 n en); popped = subst (Popped ws) (sym e) (pop_popped ws c.requires.0 n en); buckets = ap (λ v. get_or v 2 0) e ∙ pop_buckets ws c.requires.0 n en }

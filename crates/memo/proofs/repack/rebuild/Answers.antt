@@ -43,7 +43,7 @@ loop-n-preserved c =
       subst (λ q. Rebuild c.append-stored.new.words c.args.work.now (gathered c.args.work.now c.args.m) (c.loop-n.d - q) (c.loop-n.n - 1) (spare c.point.new.words)) (sym c.size_at-d.ensures)
           (rebuild_step c.loop-n.words c.args.work.now (gathered c.args.work.now c.args.m) c.loop-n.d c.loop-n.n (spare c.point.new.words) c.loop-n.invariant.0 c.loop-n-test.true c.requires.says.apart (omega (arith, x.2)) c.append-stored.new.words c.append-stored.result c.append-stored.ensures.fits
           (subst (λ e. StoreSays e c.loop-n.words c.append-stored.new.words c.append-stored.result) p.2 c.append-stored.ensures.says)),
-      c.append-stored.ensures.keeps.buckets ∙ c.loop-n.invariant.1,
+      c.append-stored.ensures.buckets ∙ c.loop-n.invariant.1,
     )
 
 pub returns : goal.returns
