@@ -2,7 +2,7 @@
 ghost use Rattle.lexer.specs.Lines.{LineEnds};
 
 // The byte that ends a line.
-const NEWLINE: u32 = 10;
+pub const NEWLINE: u32 = 10;
 
 // Where the line that begins at a place ends: at the byte that ends it, or with the text.
 pub fn line_end(text: &[u32], from: usize) -> usize

@@ -8,7 +8,7 @@ use crate::bytes::{is_digit, is_letter, is_small};
 use base::same_word;
 
 // The operators of an expression.
-#[derive(Clone, Copy)]
+#[derive(Clone, Copy, PartialEq, Eq, Debug)]
 pub enum Operator {
     Plus,
     Minus,
@@ -21,7 +21,7 @@ pub enum Operator {
 
 // The fixed words, the signs, numbers and names. BadNumber begins with a digit
 // and isn't all digits, Other is any other piece that can stand nowhere, and End stands for no piece at all.
-#[derive(Clone, Copy)]
+#[derive(Clone, Copy, PartialEq, Eq, Debug)]
 pub enum Token {
     Use,
     Kind,

@@ -5,3 +5,4 @@ pub mod Walk
 pub mod Promise
 pub mod Read
 pub mod Theorems
+pub mod Numbers
