@@ -1,7 +1,9 @@
 -- Each test on a piece's word, as a test on its kind: what the parser asks of a token instead of comparing words.
-use Rattle.std.proofs.Common.{◌≡◌, ℕ, Bool, true, false, not, ◌&&◌, ◌||◌, eqb, [], ◌∷◌, sym, refl, ap, ◌∙◌, subst, eqb-true}
+use Rattle.std.proofs.Common.{◌≡◌, ℕ, Bool, true, false, not, ◌&&◌, ◌||◌, eqb, List, [], ◌∷◌, sym, refl, ap, ◌∙◌, subst, eqb-true}
 use mathlib.Core.Bool.{false≢true}
 use mathlib.Core.Option.{Option, some, none}
+use Rattle.std.specs.List.{list_all}
+use Rattle.lexer.specs.Parts.{digit}
 use Rattle.base.specs.Base.{pick, or_else, when1, Word, same, among}
 use Rattle.lexer.specs.Tokens.{letter}
 use Rattle.lexer.specs.Words.{k_use, k_kind, k_rec, k_def, k_let, k_in, k_if, k_then, k_else, k_and, k_or, k_num, k_bool, t_lp, t_rp, t_comma, t_gets, t_is, t_less, t_plus, t_minus, t_times, t_dot, kept, first, is_number, digits, is_name, is_type, op_any}
@@ -717,3 +719,8 @@ facts (c ∷ cs) =
     by_pick (Facts (c ∷ cs)) (same (c ∷ cs) t_times) _ _ (λ e. subst (λ v. Facts v (Sign Times)) (sym (same_eq (c ∷ cs) t_times e)) times_facts) (λ h_times.
     by_pick (Facts (c ∷ cs)) (is_number (c ∷ cs)) _ _ (λ p. by_pick (Facts (c ∷ cs)) (digits (c ∷ cs)) _ _ (λ q. number_facts (c ∷ cs) h_use h_kind h_rec h_def h_let h_in h_if h_then h_else h_and h_or h_num h_bool h_open h_close h_comma h_gets h_dot h_is h_less h_plus h_minus h_times p q) (λ q. bad_facts (c ∷ cs) h_use h_kind h_rec h_def h_let h_in h_if h_then h_else h_and h_or h_num h_bool h_open h_close h_comma h_gets h_dot h_is h_less h_plus h_minus h_times p q))
     (λ p. by_pick (Facts (c ∷ cs)) (letter c) _ _ (λ q. name_facts (c ∷ cs) h_use h_kind h_rec h_def h_let h_in h_if h_then h_else h_and h_or h_num h_bool h_open h_close h_comma h_gets h_dot h_is h_less h_plus h_minus h_times p q) (λ q. other_facts (c ∷ cs) h_use h_kind h_rec h_def h_let h_in h_if h_then h_else h_and h_or h_num h_bool h_open h_close h_comma h_gets h_dot h_is h_less h_plus h_minus h_times p q)))))))))))))))))))))))))
+
+-- every byte is a digit
+pub digits_all : (w : List ℕ) → list_all digit w ≡ digits w
+digits_all [] = refl
+digits_all (c ∷ cs) = ap (λ b. digit c && b) (digits_all cs)

@@ -1,3 +1,4 @@
+pub mod Runs
 pub mod Facts
 pub mod Rises
 pub mod Covers

@@ -1,9 +1,11 @@
 -- The same, over a line and a place in it, as the loops have them.
-use Rattle.std.proofs.Common.{◌≡◌, ℕ, ◌+◌, ◌-◌, ◌<◌, ◌≤◌, true, false, eqb, List, [], ◌∷◌, ◌++◌, length, get_or, take, drop, sym, refl, ap, ◌∙◌, ⊎_elim, arith, length-drop, get_or-drop, eq-eqb, ne_eqb}
+use Rattle.std.proofs.Common.{◌≡◌, ℕ, ◌+◌, ◌-◌, ◌<◌, ◌≤◌, true, false, eqb, List, [], ◌∷◌, ◌++◌, length, get_or, take, drop, sym, refl, ap, ◌∙◌, ⊎_elim, subst, arith, length-drop, get_or-drop, eq-eqb, ne_eqb}
 use Rattle.std.proofs.lemmas.List.{at_drop_more, at_drop_all, take_more}
 use Rattle.std.proofs.lemmas.Bool.{both_ways, cases_lt}
+use Rattle.std.specs.List.{prefix_len}
 use Rattle.base.specs.Base.{Word}
 use Rattle.lexer.specs.Tokens.{tok, gap, in_word, equals, letter, blank, toks}
+use Rattle.lexer.proofs.Runs.{along, ends, inside}
 use Rattle.lexer.proofs.Steps.{skip_blank, word_begins, word_goes, word_ends, note_begins, equals_begins, equals_ends, equals_twice, other_alone}
 
 pub no_note : (c : ℕ) → letter c ≡ true → eqb c 35 ≡ false
@@ -85,3 +87,50 @@ module _ (xs : List ℕ) (i : ℕ) (inside : i < length xs) (b : blank (get_or x
 
 pub note_at : (xs : List ℕ) (i : ℕ) → i < length xs → blank (get_or xs i 0) ≡ false → get_or xs i 0 ≡ 35 → toks gap i (drop i xs) ≡ []
 note_at xs i h b e = at_drop_more (toks gap i) xs i 0 h ∙ note_begins i (get_or xs i 0) (drop (i + 1) xs) b (eq-eqb _ 35 e)
+
+-- over blanks from a place on no piece begins
+pub blank_run : (xs : List ℕ) (f n : ℕ) → n ≡ prefix_len blank (drop f xs) → toks gap f (drop f xs) ≡ toks gap (f + n) (drop (f + n) xs)
+blank_run xs f n e =
+    subst (λ n. toks gap f (drop f xs) ≡ toks gap (f + n) (drop (f + n) xs)) (sym e)
+    (along blank xs f (λ i. toks gap f (drop f xs) ≡ toks gap i (drop i xs)) refl (λ i _ h b t. t ∙ blank_more xs i h b))
+
+pub blank_stops : (xs : List ℕ) (f n : ℕ) → n ≡ prefix_len blank (drop f xs) → f + n < length xs → blank (get_or xs (f + n) 0) ≡ false
+blank_stops xs f n e = subst (λ n. f + n < length xs → blank (get_or xs (f + n) 0) ≡ false) (sym e) (ends blank xs f)
+
+module _ (xs : List ℕ) (f : ℕ) (h : f < length xs) (b : blank (get_or xs f 0) ≡ false) (l : letter (get_or xs f 0) ≡ true) where
+  -- as far as a word goes on from a place
+  abbrev Goes : ℕ → Type 0
+  Goes i = f < i → toks gap f (drop f xs) ≡ toks (in_word (part xs f i) f) i (drop i xs)
+
+  goes_more : (i : ℕ) → f ≤ i → i < length xs → letter (get_or xs i 0) ≡ true → Goes i → Goes (i + 1)
+  goes_more i fi ih t g _ =
+      ⊎_elim
+      (λ m. g m ∙ word_more xs i ih f fi t)
+      (λ m. let e : f ≡ i = omega arith in subst (λ i. toks gap f (drop f xs) ≡ toks (in_word (part xs f (i + 1)) f) (i + 1) (drop (i + 1) xs)) e (word_starts xs f h b l))
+      (cases_lt f i)
+
+  some_letter : f < f + prefix_len letter (drop f xs)
+  some_letter =
+      ⊎_elim
+      (λ m. m)
+      (λ m. let e : f + prefix_len letter (drop f xs) ≡ f = omega arith in
+      absurd (both_ways (letter (get_or xs f 0)) (ap (λ i. letter (get_or xs i 0)) (sym e) ∙ ends letter xs f (omega (arith, e, h))) l))
+      (cases_lt f (f + prefix_len letter (drop f xs)))
+
+  word_to : (i : ℕ) → i ≡ f + prefix_len letter (drop f xs) → toks gap f (drop f xs) ≡ tok (part xs f i) f i ∷ toks gap i (drop i xs)
+  word_to i e =
+      let g : Goes i = subst Goes (sym e) (along letter xs f Goes (λ n. absurd (omega (arith, n))) goes_more) in
+      g (subst (λ i. f < i) (sym e) some_letter) ∙
+      ⊎_elim
+      (λ m. word_stops xs i m f (ap (λ i. letter (get_or xs i 0)) e ∙ ends letter xs f (subst (λ i. i < length xs) e m)))
+      (λ m. word_at_end xs i f m)
+      (cases_lt i (length xs))
+
+-- a word that begins at a place is one piece, and ends with its letters
+pub word_run : (xs : List ℕ) (f n : ℕ) → n ≡ prefix_len letter (drop f xs) → f < length xs → blank (get_or xs f 0) ≡ false → letter (get_or xs f 0) ≡ true →
+    (f + n ≤ length xs) × (f < f + n) × (toks gap f (drop f xs) ≡ tok (part xs f (f + n)) f (f + n) ∷ toks gap (f + n) (drop (f + n) xs))
+word_run xs f n e h b l = (
+  subst (λ n. f + n ≤ length xs) (sym e) (inside letter xs f (omega arith)),
+  subst (λ n. f < f + n) (sym e) (some_letter xs f h b l),
+  word_to xs f h b l (f + n) (ap (λ n. f + n) e),
+)

@@ -1,5 +1,5 @@
 -- The lines of a text from a place on.
-use Rattle.std.specs.Prelude.{◌≡◌, ℕ, ◌+◌, ◌-◌, ◌≤◌, List, [], ◌∷◌, length, take, drop, nat_lt}
+use Rattle.std.specs.Prelude.{◌≡◌, ℕ, ◌+◌, ◌-◌, ◌≤◌, Bool, not, ◌==◌, List, [], ◌∷◌, length, take, drop, nat_lt}
 use Rattle.base.specs.Base.{pick}
 use Rattle.lexer.specs.Tokens.{Line, cut}
 
@@ -20,3 +20,7 @@ pub record LineEnds (text : List ℕ) (from to : ℕ) : Type 0 where
   pub onward : from ≤ to
   pub within : from ≤ length text → to ≤ length text
   pub cuts : lines_from text from ≡ line_of text from to ∷ lines_behind text to
+
+-- a byte that doesn't end a line
+abbrev pub goes_on : ℕ → Bool
+goes_on c = not (c == 10)

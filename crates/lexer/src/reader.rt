@@ -1,5 +1,6 @@
 // The pieces of a line, one after the other.
 ghost use Rattle.std.specs.Prelude.{◌≡◌, ◌-◌, ◌<◌, ◌≤◌, true, false, [], ◌∷◌, length, MatchOption, ◌≢◌, slice_index, slice_range};
+ghost use Rattle.std.specs.List.{prefix_len};
 ghost use Rattle.lexer.specs.Tokens.{letter, blank, left, piece, end_of};
 ghost use Rattle.lexer.specs.Seen.{NextAt, SeenSays};
 
@@ -26,17 +27,27 @@ pub struct Reader<'a> {
     pub at: usize,
 }
 
+// How many blanks stand before the first byte that is none.
+fn blank_len(bytes: &[u32]) -> usize
+    ensures { result ≡ prefix_len blank bytes.now }
+{
+    bytes.iter().take_while(|c| is_blank(**c)).count()
+}
+
+// How many bytes of a word stand before the first that is none.
+fn letter_len(bytes: &[u32]) -> usize
+    ensures { result ≡ prefix_len letter bytes.now }
+{
+    bytes.iter().take_while(|c| is_letter(**c)).count()
+}
+
 // Where the blanks from a place on end.
 fn blanks_end(line: &[u32], from: usize) -> usize
     ensures onward { from ≤ result }
     ensures same { left line.now from ≡ left line.now result }
     ensures stops { result < length line.now → blank (slice_index line.now result) ≡ false }
 {
-    let mut i = from;
-    while i < line.len() && is_blank(line[i]) {
-        i += 1;
-    }
-    i
+    from + blank_len(&line[from.min(line.len())..])
 }
 
 // Where the word that begins at a place ends.
@@ -48,11 +59,7 @@ fn word_end(line: &[u32], from: usize) -> usize
     ensures onward { from < result }
     ensures reads { left line.now from ≡ piece line.now from result ∷ left line.now result }
 {
-    let mut i = from + 1;
-    while i < line.len() && is_letter(line[i]) {
-        i += 1;
-    }
-    i
+    from + letter_len(&line[from..])
 }
 
 // Where the piece that begins at a place ends.

@@ -1,8 +1,8 @@
 // What a piece is, as far as its own bytes tell.
 ghost use Rattle.std.specs.Prelude.{◌≡◌};
-ghost use Rattle.lexer.specs.Words.{digits};
+ghost use Rattle.std.specs.List.{list_all};
 ghost use Rattle.lexer.specs.Kinds.{token_of};
-ghost use Rattle.lexer.specs.Parts.{keyword, number, sign};
+ghost use Rattle.lexer.specs.Parts.{keyword, number, sign, digit};
 
 use crate::bytes::{is_digit, is_letter, is_small};
 use base::same_word;
@@ -115,12 +115,7 @@ fn number(w: &[u32]) -> Token
 
 // Whether every byte is a digit.
 fn all_digits(w: &[u32]) -> bool
-    ensures { result ≡ digits w.now }
+    ensures { result ≡ list_all digit w.now }
 {
-    for c in w {
-        if !is_digit(*c) {
-            return false;
-        }
-    }
-    true
+    w.iter().all(|c| is_digit(*c))
 }

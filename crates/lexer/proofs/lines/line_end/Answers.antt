@@ -1,26 +1,16 @@
-use Rattle.std.proofs.Common.{◌∙◌, arith}
-use Rattle.lexer.proofs.Cuts.{line_more, line_stops, line_at_end}
+use Rattle.std.proofs.Common.{◌≡◌, drop, rules}
+use Rattle.std.specs.List.{prefix_len}
+use Rattle.lexer.specs.Lines.{goes_on}
+use Rattle.lexer.proofs.Cuts.{line_ends}
+use Rattle.lexer.proofs.Runs.{run_fits, rest_at}
 use Rattle.lexer.proofs.lines.line_end.Goals as goal
 
-pub loop-i-preserved : goal.loop-i-preserved
-loop-i-preserved c = (
-  omega arith,
-  (λ _. omega arith),
-  c.loop-i.invariant.2 ∙ line_more c.args.text.now c.args.from c.loop-i.i c.loop-i.invariant.0 c.loop-i-test.true c.if-text-i-ne-NEWLINE.true,
-)
+-- how many bytes the line has
+long : (c : goal.After-line_len) → c.line_len.result ≡ prefix_len goes_on (drop c.args.from c.args.text.now)
+long c = rest_at goes_on c.args.text.now c.args.from c.min.result _ c.min.ensures c.line_len.ensures
 
-pub returns-else-text-i-ne-NEWLINE : goal.returns-else-text-i-ne-NEWLINE
-returns-else-text-i-ne-NEWLINE c =
-    record {
-      onward = c.loop-i.invariant.0;
-      within = c.loop-i.invariant.1;
-      cuts = c.loop-i.invariant.2 ∙ line_stops c.args.text.now c.args.from c.loop-i.i c.loop-i.invariant.0 c.loop-i-test.true c.if-text-i-ne-NEWLINE.false;
-    }
+pub overflow_add-result : goal.overflow_add-result
+overflow_add-result c = let h = run_fits goes_on c.args.text.now c.args.from in let e = long c in search (rules, h, e)
 
-pub returns-after-loop-i : goal.returns-after-loop-i
-returns-after-loop-i c =
-    record {
-      onward = c.loop-i.invariant.0;
-      within = c.loop-i.invariant.1;
-      cuts = c.loop-i.invariant.2 ∙ line_at_end c.args.text.now c.args.from c.loop-i.i c.loop-i-test.false;
-    }
+pub returns : goal.returns
+returns c = line_ends c.args.text.now c.args.from c.line_len.result (long c)

@@ -1,23 +1,19 @@
-use Rattle.std.proofs.Common.{sym, ◌∙◌, arith}
-use Rattle.lexer.proofs.Places.{word_starts, word_more, word_stops, word_at_end}
+use Rattle.std.proofs.Common.{◌≡◌, drop, ap, ◌∙◌, rules}
+use Rattle.std.specs.List.{prefix_len}
+use Rattle.lexer.specs.Tokens.{letter}
+use Rattle.lexer.proofs.Runs.{run_fits, rest}
+use Rattle.lexer.proofs.Places.{word_run}
 use Rattle.lexer.proofs.reader.word_end.Goals as goal
 
-pub loop-i-init : goal.loop-i-init
-loop-i-init c = (omega arith, omega arith, word_starts c.args.line.now c.args.from c.requires.within c.requires.not_blank c.requires.begins)
+-- how many letters there are
+long : (c : goal.After-letter_len) → c.letter_len.result ≡ prefix_len letter (drop c.args.from c.args.line.now)
+long c = c.letter_len.ensures ∙ ap (prefix_len letter) (rest c.args.line.now c.args.from)
 
-pub loop-i-preserved : goal.loop-i-preserved
-loop-i-preserved c = (omega arith, omega arith, c.loop-i.invariant.2 ∙ word_more c.args.line.now c.loop-i.i c.loop-i-test.true c.args.from (omega arith) (sym c.if-is_letter.ensures))
+pub overflow_add-result : goal.overflow_add-result
+overflow_add-result c = let h = run_fits letter c.args.line.now c.args.from in let e = long c in search (rules, h, e)
 
-pub returns-else-is_letter : goal.returns-else-is_letter
-returns-else-is_letter c = record {
-  within = c.loop-i.invariant.0;
-  onward = c.loop-i.invariant.1;
-  reads = c.loop-i.invariant.2 ∙ word_stops c.args.line.now c.loop-i.i c.loop-i-test.true c.args.from (sym c.if-is_letter.ensures);
-}
+pub returns-clause-within : goal.returns-clause-within
+returns-clause-within c = (word_run c.args.line.now c.args.from c.letter_len.result (long c) c.requires.within c.requires.not_blank c.requires.begins).0
 
-pub returns-after-loop-i : goal.returns-after-loop-i
-returns-after-loop-i c = record {
-  within = c.loop-i.invariant.0;
-  onward = c.loop-i.invariant.1;
-  reads = c.loop-i.invariant.2 ∙ word_at_end c.args.line.now c.loop-i.i c.args.from c.loop-i-test.false;
-}
+pub returns-clause-reads : goal.returns-clause-reads
+returns-clause-reads c = (word_run c.args.line.now c.args.from c.letter_len.result (long c) c.requires.within c.requires.not_blank c.requires.begins).2
