@@ -5,7 +5,7 @@ ghost use Rattle.lexer.specs.Kinds.{token_of};
 ghost use Rattle.lexer.specs.Parts.{keyword, number, sign, digit};
 
 use crate::bytes::{is_digit, is_letter, is_small};
-use base::same_word;
+use base::spells;
 
 // The operators of an expression.
 #[derive(Clone, Copy, PartialEq, Eq, Debug)]
@@ -57,7 +57,7 @@ pub fn token_of(w: &[u32]) -> Token
         [c, ..] if is_digit(*c) => number(w),
         [c, ..] if is_letter(*c) => Token::Name,
         [c] => sign(*c),
-        w if same_word(w, &[61, 61]) => Token::Sign(Operator::Equal),
+        w if spells(w, b"==") => Token::Sign(Operator::Equal),
         _ => Token::Other,
     }
 }
@@ -67,19 +67,19 @@ fn keyword(w: &[u32]) -> Token
     ensures { result ≡ keyword w.now }
 {
     match w {
-        w if same_word(w, &[117, 115, 101]) => Token::Use,
-        w if same_word(w, &[107, 105, 110, 100]) => Token::Kind,
-        w if same_word(w, &[114, 101, 99]) => Token::Rec,
-        w if same_word(w, &[100, 101, 102]) => Token::Def,
-        w if same_word(w, &[108, 101, 116]) => Token::Let,
-        w if same_word(w, &[105, 110]) => Token::In,
-        w if same_word(w, &[105, 102]) => Token::If,
-        w if same_word(w, &[116, 104, 101, 110]) => Token::Then,
-        w if same_word(w, &[101, 108, 115, 101]) => Token::Else,
-        w if same_word(w, &[97, 110, 100]) => Token::Sign(Operator::And),
-        w if same_word(w, &[111, 114]) => Token::Sign(Operator::Or),
-        w if same_word(w, &[110, 117, 109]) => Token::Num,
-        w if same_word(w, &[98, 111, 111, 108]) => Token::Bool,
+        w if spells(w, b"use") => Token::Use,
+        w if spells(w, b"kind") => Token::Kind,
+        w if spells(w, b"rec") => Token::Rec,
+        w if spells(w, b"def") => Token::Def,
+        w if spells(w, b"let") => Token::Let,
+        w if spells(w, b"in") => Token::In,
+        w if spells(w, b"if") => Token::If,
+        w if spells(w, b"then") => Token::Then,
+        w if spells(w, b"else") => Token::Else,
+        w if spells(w, b"and") => Token::Sign(Operator::And),
+        w if spells(w, b"or") => Token::Sign(Operator::Or),
+        w if spells(w, b"num") => Token::Num,
+        w if spells(w, b"bool") => Token::Bool,
         _ => Token::Name,
     }
 }

@@ -24,11 +24,11 @@ returns-in_default c =
     let w = c.args.w.now in
     let n : letter (get_or w 0 0) ≡ false = sym c.if-is_letter.ensures in
     let l : 1 < length w = search rules in
-    sym (more_signs w l n ∙ ap (λ (b : Bool). pick b (Sign Equal) Other) (sym c.if-same_word.ensures))
+    sym (more_signs w l n ∙ ap (λ (b : Bool). pick b (Sign Equal) Other) (sym c.if-spells.ensures))
 
 pub returns-in_default-2 : goal.returns-in_default-2
 returns-in_default-2 c =
     let w = c.args.w.now in
     let n : letter (get_or w 0 0) ≡ false = sym c.if-is_letter.ensures in
     let l : 1 < length w = search rules in
-    sym (more_signs w l n ∙ ap (λ (b : Bool). pick b (Sign Equal) Other) (sym c.if-same_word.ensures))
+    sym (more_signs w l n ∙ ap (λ (b : Bool). pick b (Sign Equal) Other) (sym c.if-spells.ensures))
