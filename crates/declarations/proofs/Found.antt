@@ -1,5 +1,5 @@
 -- Constants and fields found again from their operations.
-use Rattle.std.proofs.Common.{◌≡◌, ℕ, zero, suc, ◌/◌, ◌≤◌, List, [], ◌∷◌, length, Some, None, Option, sym, refl, ap, ◌∙◌, arith}
+use Rattle.std.proofs.Common.{◌≡◌, ℕ, zero, suc, ◌≤◌, List, [], ◌∷◌, length, Some, None, Option, sym, refl, ap, ◌∙◌, arith}
 use Rattle.std.specs.List.{slice_get}
 use Rattle.base.specs.Base.{Word}
 use Rattle.lexer.specs.Tokens.{Tok}
@@ -10,17 +10,7 @@ use Rattle.parser.specs.Rows.{ops, op_is, span_of}
 use Rattle.parser.specs.declared.code.Span.{Span}
 use Rattle.parser.specs.declared.code.Op.{Op}
 use Rattle.parser.specs.declared.code.Op.TheVariants.{Const}
-use Rattle.declarations.specs.declared.fields.Places.{Places}
-use Rattle.declarations.specs.Declares.{SlotSays, PlacesSays}
-
--- five words an operation
-pub ops_length : (line code : List ℕ) → length (ops line code) ≡ length code / 5
-ops_length line [] = refl
-ops_length line (t ∷ []) = refl
-ops_length line (t ∷ a ∷ []) = refl
-ops_length line (t ∷ a ∷ b ∷ []) = refl
-ops_length line (t ∷ a ∷ b ∷ c ∷ []) = refl
-ops_length line (t ∷ a ∷ b ∷ c ∷ d ∷ ws) = omega (arith, ops_length line ws)
+pub use Rattle.syntax.proofs.Views.{ops_length}
 
 -- an operation of a line, by another name of the line and of its operations
 pub moved : (line own code : List ℕ) (os : List Flat) (i : ℕ) (r : Option Flat) → ops line code ≡ os → own ≡ line → slice_get (ops own code) i ≡ r → slice_get os i ≡ r
@@ -65,8 +55,3 @@ pub slots_past : (fs : List Field) (i : ℕ) → slice_get (slots_onto fs []) i 
 slots_past [] i e = omega arith
 slots_past (f ∷ fs) zero e = let z : ◌≡◌ {A = ℕ} 0 1 = cc in absurd (omega arith)
 slots_past (f ∷ fs) (suc i) e = omega (arith, slots_past fs i e)
-
--- the places of the field that the i-th operation is
-pub places_are : (line : List ℕ) (fs : List Field) (i : ℕ) (op : Op) (r : Option Places) → slice_get (slots_onto fs []) i ≡ Some (op_is line op) → SlotSays op r → PlacesSays line fs i r
-places_are line fs i op (Some p) e s = slots_at fs i (record { name = span_of line p.name; ty = span_of line p.ty }) (e ∙ ap (λ o. Some (op_is line o)) s)
-places_are line fs i op None e s = let d = slots_is fs i (op_is line op) e in absurd (s line d.0 d.1)

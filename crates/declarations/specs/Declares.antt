@@ -6,24 +6,15 @@ use Rattle.lexer.specs.declared.reader.Piece.{Piece}
 use Rattle.grammar.specs.Grammar.{Field, Item as Meant, nothing, i_use, i_kind, i_rec, i_def, i_bad}
 use Rattle.grammar.specs.Code.{slots_onto, o_const, o_slot}
 use Rattle.semantics.specs.Names.{Decl, decl, decls_item, uses_item}
-use Rattle.parser.specs.Rows.{ops, op_is, span_of}
+use Rattle.semantics.specs.Numbers.{sort_number}
+use Rattle.parser.specs.Rows.{ops, op_is}
 use Rattle.parser.specs.declared.code.Span.{Span}
 use Rattle.parser.specs.declared.code.Op.{Op}
 use Rattle.parser.specs.declared.code.Op.TheVariants.{Const, Slot}
 use Rattle.syntax.specs.View.{piece_of, ViewSays}
 use Rattle.syntax.specs.declared.view.Item.{Item}
-use Rattle.declarations.specs.declared.declare.Sort.{Sort}
-use Rattle.declarations.specs.declared.declare.Sort.TheVariants.{Kind, Constant, Record, Def}
 use Rattle.declarations.specs.declared.declare.Declaration.{Declaration}
 use Rattle.declarations.specs.declared.fields.FieldAt.{FieldAt}
-use Rattle.declarations.specs.declared.fields.Places.{Places}
-
--- the number that the definition has for what is declared
-abbrev pub sort_number : Sort → ℕ
-sort_number Kind = 0
-sort_number Constant = 1
-sort_number Record = 2
-sort_number Def = 3
 
 -- the name of the constant that an operation is, or it is none
 abbrev pub ConstSays : Op → Option Span → Type 0
@@ -31,8 +22,8 @@ ConstSays op (Some s) = op ≡ Const s
 ConstSays op None = (line : List ℕ) (t : Tok) → op_is line op ≢ o_const t
 
 -- the places of the field that an operation is, or it is none
-abbrev pub SlotSays : Op → Option Places → Type 0
-SlotSays op (Some p) = op ≡ Slot p.name p.ty
+abbrev pub SlotSays : Op → Option (Span × Span) → Type 0
+SlotSays op (Some p) = op ≡ Slot p.0 p.1
 SlotSays op None = (line : List ℕ) (f : Field) → op_is line op ≢ o_slot f
 
 -- d is the definition's declaration x of a line that begins at 0: its name and places, its sort, its type's word, and the fields whose operations it has
@@ -79,11 +70,6 @@ FileSays it None = uses_item it ≡ []
 -- the file that is used by the line of which this is the view, whatever line and item it is the view of
 abbrev pub UsedSays : Item → Option Piece → Type 0
 UsedSays view r = (line : List ℕ) (it : Meant) → ViewSays line it view → FileSays it r
-
--- the places of the i-th of these fields, or there are no more than i
-abbrev pub PlacesSays : List ℕ → List Field → ℕ → Option Places → Type 0
-PlacesSays line fs i (Some p) = slice_get fs i ≡ Some (record { name = span_of line p.name; ty = span_of line p.ty })
-PlacesSays line fs i None = length fs ≤ i
 
 -- the i-th of these fields, or there are no more than i
 abbrev pub FieldSays : List Field → ℕ → Option FieldAt → Type 0

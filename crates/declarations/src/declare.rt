@@ -5,22 +5,15 @@ ghost use Rattle.lexer.specs.Tokens.{Tok};
 ghost use Rattle.grammar.specs.Grammar.{Field, i_kind};
 ghost use Rattle.grammar.specs.Code.{consts_code, slots_onto};
 ghost use Rattle.semantics.specs.Names.{decl, decls_item, consts};
+ghost use Rattle.semantics.specs.Numbers.{sort_number};
 ghost use Rattle.parser.specs.Rows.{ops};
 ghost use Rattle.syntax.specs.View.{piece_of};
-ghost use Rattle.declarations.specs.Declares.{sort_number, ConstSays, AtSays, DeclaredSays, CountSays, TypedSays, UsedSays};
+ghost use Rattle.declarations.specs.Declares.{ConstSays, AtSays, DeclaredSays, CountSays, TypedSays, UsedSays};
 
 use lexer::reader::Piece;
 use parser::code::{Op, Span};
+use semantics::sort::Sort;
 use syntax::view::{Item, Ops, piece};
-
-// What is declared: a kind, a constant of one, a record, a def.
-#[derive(Clone, Copy)]
-pub enum Sort {
-    Kind,
-    Constant,
-    Record,
-    Def,
-}
 
 // A name that a line declares: the piece that names it; the word of its type, which of a kind and a record is its own name,
 // of a constant its kind's, of a def its result's; its fields or parameters as operations, none for kinds and constants.
@@ -39,7 +32,7 @@ fn empty<'a>(of: Ops<'a>) -> Ops<'a>
 {
     Ops {
         line: of.line,
-        code: &of.code[0..0],
+        code: &of.code[..0],
     }
 }
 
@@ -57,18 +50,13 @@ fn const_of(op: Op) -> Option<Span>
 fn constant<'a>(kind: Piece<'a>, names: Ops<'a>, i: usize) -> Option<Declaration<'a>>
     ensures { (line : List ℕ) (cs : List Tok) → ops line names.entry.code.now ≡ consts_code cs → names.entry.line.now ≡ line → AtSays line (consts 0 kind.entry.text.now cs) i result }
 {
-    let Some(op) = names.get(i) else {
-        return None;
-    };
-    match const_of(op) {
-        Some(s) => Some(Declaration {
-            name: piece(names.line, s),
-            sort: Sort::Constant,
-            ty: kind,
-            fields: empty(names),
-        }),
-        None => None,
-    }
+    let name = const_of(names.get(i)?)?;
+    Some(Declaration {
+        name: piece(names.line, name),
+        sort: Sort::Constant,
+        ty: kind,
+        fields: empty(names),
+    })
 }
 
 // What a line that declares a kind declares: the kind, then its constants.
@@ -91,7 +79,7 @@ fn of_kind<'a>(name: Piece<'a>, names: Ops<'a>, i: usize) -> Option<Declaration<
 fn only<'a>(d: Declaration<'a>, i: usize) -> Option<Declaration<'a>>
     ensures { (line : List ℕ) (fs : List Field) → ops line d.entry.fields.code.now ≡ slots_onto fs [] → d.entry.fields.line.now ≡ line → AtSays line (decl 0 (piece_of d.entry.name) (sort_number d.entry.sort) d.entry.ty.text.now fs ∷ []) i result }
 {
-    if i == 0 { Some(d) } else { None }
+    (i == 0).then_some(d)
 }
 
 // How many names a kind with these constants declares.
@@ -107,8 +95,7 @@ pub fn declared(item: Item<'_>) -> usize
 {
     match item {
         Item::Kind(_, names) => with_kind(names),
-        Item::Record(_, _) => 1,
-        Item::Def { .. } => 1,
+        Item::Record(_, _) | Item::Def { .. } => 1,
         _ => 0,
     }
 }
@@ -151,8 +138,7 @@ pub fn type_word<'a>(item: Item<'a>) -> Option<Piece<'a>>
     ensures { TypedSays item.entry result }
 {
     match item {
-        Item::Kind(name, _) => Some(name),
-        Item::Record(name, _) => Some(name),
+        Item::Kind(name, _) | Item::Record(name, _) => Some(name),
         Item::Def { result, .. } => Some(result),
         _ => None,
     }

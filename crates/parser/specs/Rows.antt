@@ -24,7 +24,7 @@
 --   17 body
 --   any other: not understood, from a to b
 -- An operator's number above 6 counts as 6.
-use Rattle.std.specs.Prelude.{◌≡◌, ℕ, ◌+◌, ◌-◌, ◌*◌, ◌<◌, ◌≤◌, false, List, [], ◌∷◌, ◌++◌, length, take, drop, ◌==◌}
+use Rattle.std.specs.Prelude.{◌≡◌, ℕ, ◌+◌, ◌-◌, ◌*◌, ◌<◌, ◌≤◌, false, List, [], ◌∷◌, ◌++◌, length, take, drop, ◌==◌, slice_index, Option, Some, None, Result as Outcome, Ok, Err}
 use Rattle.base.specs.Base.{pick, same}
 use Rattle.lexer.specs.Tokens.{Tok, piece, left, next, tail1}
 use Rattle.lexer.specs.Words.{t_lp, t_gets}
@@ -41,15 +41,14 @@ use Rattle.parser.specs.declared.code.Op.{Op}
 use Rattle.parser.specs.declared.code.Op.TheVariants.{Number, Name, Call, Arg, End, Field, Sign, Cond, If, Bind, Let, Par, Use, New, Const, Slot, Result, Body, Bad}
 use Rattle.parser.specs.declared.stack.Frame.{Frame}
 use Rattle.parser.specs.declared.stack.Frame.TheVariants.{Par as WaitPar, Call as WaitCall, Bound as WaitBound, Body as WaitBody, Cond as WaitCond, Then as WaitThen, Else as WaitElse, Right as WaitRight}
-use Rattle.parser.specs.declared.parse.Read.{Read}
-use Rattle.parser.specs.declared.parse.Read.TheVariants.{It, Bad as BadAt}
-use Rattle.parser.specs.declared.turn.Bounds.{Bounds}
-use Rattle.parser.specs.declared.turn.Place.{Place}
+use Rattle.parser.specs.declared.parse.Wrong.{Wrong}
+use Rattle.parser.specs.declared.parse.Parsed.{Parsed}
+use Rattle.parser.specs.declared.turn.Cursor.{Cursor}
 use Rattle.parser.specs.declared.turn.Next.{Next}
 use Rattle.parser.specs.declared.turn.Phase.{Phase}
 use Rattle.parser.specs.declared.turn.Phase.TheVariants.{Begin, Atom, Value}
-use Rattle.parser.specs.declared.turn.Turn.{Turn}
-use Rattle.parser.specs.declared.turn.Turn.TheVariants.{Go, Won, Lost}
+use Rattle.parser.specs.declared.turn.Step.{Step}
+use Rattle.parser.specs.declared.turn.Step.TheVariants.{Go, Won}
 
 -- the operator of a number
 abbrev pub sign_of : ℕ → Operator
@@ -62,6 +61,10 @@ op_of line t a b c d =
     (pick (t == 6) (o_op (operator (sign_of a))) (pick (t == 7) o_cond (pick (t == 8) (o_if a) (pick (t == 9) (o_bind (piece line a b)) (pick (t == 10) (o_let a) (pick (t == 11) (o_par a b)
     (pick (t == 12) (o_use (piece line a b)) (pick (t == 13) (o_new (piece line a b)) (pick (t == 14) (o_const (piece line a b)) (pick (t == 15) (o_slot (record { name = piece line a b; ty = piece line c d }))
     (pick (t == 16) (o_result (piece line a b)) (pick (t == 17) o_body (o_bad a b))))))))))))))))))
+
+-- the operation whose words begin at i
+abbrev pub op_in : List ℕ → List ℕ → ℕ → Flat
+op_in line ws i = op_of line (slice_index ws i) (slice_index ws (i + 1)) (slice_index ws (i + 2)) (slice_index ws (i + 3)) (slice_index ws (i + 4))
 
 abbrev pub ops : List ℕ → List ℕ → List Flat
 ops line [] = []
@@ -78,6 +81,10 @@ ops_of line base n ws = ops line (drop base (take (base + 5 * n) ws))
 -- a frame by its words
 abbrev pub frame_of : List ℕ → ℕ → ℕ → ℕ → ℕ → Waits
 frame_of line t a b c = pick (t == 0) (f_par a) (pick (t == 1) (f_call a b) (pick (t == 2) (f_bound a (piece line b c)) (pick (t == 3) (f_body a) (pick (t == 4) (f_cond a) (pick (t == 5) (f_then a) (pick (t == 6) (f_else a) (f_right (operator (sign_of a)))))))))
+
+-- the frame whose words begin at i
+abbrev pub frame_in : List ℕ → List ℕ → ℕ → Waits
+frame_in line ws i = frame_of line (slice_index ws i) (slice_index ws (i + 1)) (slice_index ws (i + 2)) (slice_index ws (i + 3))
 
 abbrev pub frames : List ℕ → List ℕ → List Waits
 frames line [] = []
@@ -125,32 +132,55 @@ frame_is line (WaitThen a) = f_then a
 frame_is line (WaitElse a) = f_else a
 frame_is line (WaitRight o) = f_right (operator o)
 
+-- the newest of d frames, or there are none
+abbrev pub NewestSays : ℕ → List ℕ → Option Frame → Type 0
+NewestSays d ws (Some f) = (0 < d) × ((line : List ℕ) → frames_of line d ws ≡ frame_is line f ∷ frames_of line (d - 1) ws)
+NewestSays d ws None = d ≡ 0
+
 abbrev pub phase_is : Phase → Stage
 phase_is Begin = p_begin
 phase_is Atom = p_atom
 phase_is (Value l) = p_value l
 
-abbrev pub line_of : Bounds → List ℕ → List ℕ
-line_of b ws = take b.len ws
+abbrev pub line_of : Cursor → List ℕ → List ℕ
+line_of p ws = take p.len ws
+
+-- where the line ends and the code begins stays as it is
+pub record Beside (p q : Cursor) : Type 0 where
+  pub len_is : q.len ≡ p.len
+  pub base_is : q.base ≡ p.base
+
+-- what the parser has come to stays, and only the place in the line is another
+pub record Behind (p q : Cursor) («at» : ℕ) : Type 0 where
+  pub beside : Beside p q
+  pub at_is : q.at ≡ «at»
+  pub depth_is : q.depth ≡ p.depth
+  pub count_is : q.count ≡ p.count
 
 -- the next piece from a place on, whose token this is, stands there
 pub record Shown (len : ℕ) (ws : List ℕ) (at : ℕ) (t : Token) (s : Span) : Type 0 where
   pub cuts : left (take len ws) at ≡ span_of (take len ws) s ∷ left (take len ws) s.to
   pub word : token_of (span_of (take len ws) s).w ≡ t
-  pub onward : at ≤ s.to
-  pub within : s.to ≤ len
 
-pub record NextSays (len : ℕ) (ws : List ℕ) (at : ℕ) (n : Next) : Type 0 where
-  pub token_is : n.token ≡ token_of (next (left (take len ws) at))
-  pub shows : is_end n.token ≡ false → Shown len ws at n.token n.span
+pub record NextSays (p : Cursor) (ws : List ℕ) (n : Next) : Type 0 where
+  pub token_is : n.token ≡ token_of (next (left (line_of p ws) p.at))
+  pub shows : is_end n.token ≡ false → Shown p.len ws p.at n.token n.span
+  pub behind : Behind p n.behind n.span.to
+  pub onward : p.at ≤ n.span.to
+  pub within : n.span.to ≤ p.len
+
+-- the next piece, where it is of this token; or it goes wrong here, as it isn't
+abbrev pub TakesSays : Cursor → List ℕ → Token → Outcome Next Wrong → Type 0
+TakesSays p ws t (Ok n) = (n.token ≡ t) × NextSays p ws n
+TakesSays p ws t (Err w) = (w.at ≡ p.at) × (token_of (next (left (line_of p ws) p.at)) ≡ t → ⊥)
 
 -- what a turn may build on: the line before the code, and k words of room between code and stack
-pub record Ready (k : ℕ) (b : Bounds) (p : Place) (ws : List ℕ) : Type 0 where
-  pub at_in : p.at ≤ b.len
-  pub line_in : b.len ≤ b.base
-  pub room : b.base + 5 * p.count + 4 * p.depth + k ≤ length ws
+pub record Ready (k : ℕ) (p : Cursor) (ws : List ℕ) : Type 0 where
+  pub at_in : p.at ≤ p.len
+  pub line_in : p.len ≤ p.base
+  pub room : p.base + 5 * p.count + 4 * p.depth + k ≤ length ws
   pub few : p.count + k < 4294967295
-  pub short : b.len < 4294967000
+  pub short : p.len < 4294967000
 
 -- a call that waits on top has few arguments
 abbrev pub Few : List Waits → Type 0
@@ -164,33 +194,45 @@ Few (f_then a ∷ fs) = Unit {0}
 Few (f_else a ∷ fs) = Unit {0}
 Few (f_right o ∷ fs) = Unit {0}
 
--- a turn's end is the machine's state x: it goes on, it has won, it has lost
-pub record Went (line : List ℕ) (b : Bounds) (from : ℕ) (vs : List ℕ) (x : State) (m : Phase) (q : Place) : Type 0 where
-  pub comes : x ≡ going (phase_is m) (left line q.at) (frames_of line q.depth vs) (ops_of line b.base q.count vs)
-  pub onward : from ≤ q.at
-  pub within : q.at ≤ b.len
-  pub fits : b.base + 5 * q.count + 4 * q.depth ≤ length vs
+-- an operation, by the line, came to stand behind those that were there, and all else is as it was
+pub record Emits (p : Cursor) (ws vs : List ℕ) (o : List ℕ → Flat) (q : Cursor) : Type 0 where
+  pub line_in : p.len ≤ p.base
+  pub kept : take p.base vs ≡ take p.base ws
+  pub beside : Beside p q
+  pub at_is : q.at ≡ p.at
+  pub depth_is : q.depth ≡ p.depth
+  pub count_is : q.count ≡ p.count + 1
+  pub adds : ops_of (line_of p ws) p.base (p.count + 1) vs ≡ ops_of (line_of p ws) p.base p.count ws ++ (o (line_of p ws) ∷ [])
+  pub waiting : frames_of (line_of p ws) p.depth vs ≡ frames_of (line_of p ws) p.depth ws
 
-pub record Ended (line : List ℕ) (b : Bounds) (from : ℕ) (vs : List ℕ) (x : State) (q : Place) : Type 0 where
-  pub comes : x ≡ won (ops_of line b.base q.count vs) (left line q.at)
-  pub onward : from ≤ q.at
-  pub within : q.at ≤ b.len
-  pub fits : b.base + 5 * q.count ≤ length vs
+-- from a place p of a line, a turn's end is the machine's state x: it goes on, it has won, it has lost
+pub record Went (line : List ℕ) (p : Cursor) (vs : List ℕ) (x : State) (m : Phase) (q : Cursor) : Type 0 where
+  pub comes : x ≡ going (phase_is m) (left line q.at) (frames_of line q.depth vs) (ops_of line p.base q.count vs)
+  pub beside : Beside p q
+  pub onward : p.at ≤ q.at
+  pub within : q.at ≤ p.len
+  pub fits : p.base + 5 * q.count + 4 * q.depth ≤ length vs
 
-pub record Stopped (line : List ℕ) (b : Bounds) (from : ℕ) (x : State) (a : ℕ) : Type 0 where
+pub record Ended (line : List ℕ) (p : Cursor) (vs : List ℕ) (x : State) (q : Cursor) : Type 0 where
+  pub comes : x ≡ won (ops_of line p.base q.count vs) (left line q.at)
+  pub onward : p.at ≤ q.at
+  pub within : q.at ≤ p.len
+  pub fits : p.base + 5 * q.count ≤ length vs
+
+pub record Stopped (line : List ℕ) (p : Cursor) (x : State) (a : ℕ) : Type 0 where
   pub comes : x ≡ lost (left line a)
-  pub onward : from ≤ a
-  pub within : a ≤ b.len
+  pub onward : p.at ≤ a
+  pub within : a ≤ p.len
 
-abbrev pub Says : List ℕ → Bounds → ℕ → List ℕ → State → Turn → Type 0
-Says line b from vs x (Go m q) = Went line b from vs x m q
-Says line b from vs x (Won q) = Ended line b from vs x q
-Says line b from vs x (Lost a) = Stopped line b from x a
+abbrev pub Says : List ℕ → Cursor → List ℕ → State → Outcome Step Wrong → Type 0
+Says line p vs x (Ok (Go m q)) = Went line p vs x m q
+Says line p vs x (Ok (Won q)) = Ended line p vs x q
+Says line p vs x (Err w) = Stopped line p x w.at
 
--- a turn from a place does what F does to what the words stand for there, and leaves what lies before the code
-pub record Does (b : Bounds) (p : Place) (ws vs : List ℕ) (F : List Tok → List Waits → List Flat → State) (r : Turn) : Type 0 where
-  pub kept : take b.base vs ≡ take b.base ws
-  pub says : Says (line_of b ws) b p.at vs (F (left (line_of b ws) p.at) (frames_of (line_of b ws) p.depth ws) (ops_of (line_of b ws) b.base p.count ws)) r
+-- a turn from a place does what F, by the line, does to what the words stand for there, and leaves what lies before the code
+pub record Does (p : Cursor) (ws vs : List ℕ) (F : List ℕ → List Tok → List Waits → List Flat → State) (r : Outcome Step Wrong) : Type 0 where
+  pub kept : take p.base vs ≡ take p.base ws
+  pub says : Says (line_of p ws) p vs (F (line_of p ws) (left (line_of p ws) p.at) (frames_of (line_of p ws) p.depth ws) (ops_of (line_of p ws) p.base p.count ws)) r
 
 -- the machine's steps in the parts in which the code takes them: behind let; behind a name; behind a dot
 abbrev pub after_let : ℕ → List Tok → List Waits → List Flat → State
@@ -206,15 +248,12 @@ after_dot us fs c = names_it us (λ x vs. going (p_value 7) vs fs (c ++ (o_field
 abbrev pub goes_to : Waits → List Tok → List Waits → List Flat → State
 goes_to f us fs c = pop us (f ∷ fs) c
 
--- one operation more, and a value of a level is there; a frame waits for what begins; it waits for an expression, behind one operation more
+-- one operation more, and a value of a level is there; a frame waits for what begins
 abbrev pub puts : Flat → ℕ → List Tok → List Waits → List Flat → State
 puts o l us fs c = going (p_value l) us fs (c ++ (o ∷ []))
 
 abbrev pub waits : Waits → Phase → List Tok → List Waits → List Flat → State
 waits f m us fs c = going (phase_is m) us (f ∷ fs) c
-
-abbrev pub puts_waits : Flat → Waits → List Tok → List Waits → List Flat → State
-puts_waits o f us fs c = going p_begin us (f ∷ fs) (c ++ (o ∷ []))
 
 abbrev pub takes : Phase → List Tok → List Waits → List Flat → State
 takes m us fs c = step (going (phase_is m) us fs c)
@@ -233,6 +272,6 @@ pub record ReadBad (line : List ℕ) (len from «at» : ℕ) : Type 0 where
   pub onward : from ≤ «at»
   pub within : «at» ≤ len
 
-abbrev pub ReadSays : List ℕ → ℕ → ℕ → ℕ → List ℕ → Read → Type 0
-ReadSays line len base from vs (It «at» count) = ReadIt line len base from vs «at» count
-ReadSays line len base from vs (BadAt «at») = ReadBad line len from «at»
+abbrev pub ReadSays : List ℕ → ℕ → ℕ → ℕ → List ℕ → Outcome Parsed Wrong → Type 0
+ReadSays line len base from vs (Ok r) = ReadIt line len base from vs r.at r.count
+ReadSays line len base from vs (Err w) = ReadBad line len from w.at

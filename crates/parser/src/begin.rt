@@ -2,99 +2,77 @@
 ghost use Rattle.grammar.specs.Machine.{do_begin, do_atom, do_call};
 ghost use Rattle.parser.specs.Rows.{span_of, line_of, Ready, Does, after_let, after_name};
 
-use crate::code::{Op, Span, emit};
+use crate::code::{Op, Span};
+use crate::parse::Wrong;
 use crate::stack::Frame;
-use crate::turn::{Bounds, Phase, Place, SMALLEST, Turn, look, put, put_wait, wait};
+use crate::turn::{Cursor, Phase, SMALLEST, Step};
 use lexer::token::Token;
 
-// An expression begins.
-pub fn begin(words: &mut [u32], b: Bounds, p: Place) -> Turn
-    requires { Ready 24 b p words.old }
-    ensures { Does b p words.old words.new do_begin result }
-{
-    let s = look(words, b.len, p.at);
-    let q = Place {
-        at: s.span.to as usize,
-        ..p
-    };
-    match s.token {
-        Token::Let => name_bound(words, b, q, s.span.from),
-        Token::If => wait(words, b, q, Frame::Cond(s.span.from), Phase::Begin),
-        _ => Turn::Go(Phase::Atom, p),
-    }
-}
-
-// Behind a let that began at a place: its name and =.
-fn name_bound(words: &mut [u32], b: Bounds, p: Place, n: u32) -> Turn
-    requires { Ready 24 b p words.old }
-    ensures { Does b p words.old words.new (after_let n) result }
-{
-    let x = look(words, b.len, p.at);
-    let Token::Name = x.token else {
-        return Turn::Lost(p.at);
-    };
-    let behind = x.span.to as usize;
-    let g = look(words, b.len, behind);
-    let Token::Gets = g.token else {
-        return Turn::Lost(behind);
-    };
-    let q = Place {
-        at: g.span.to as usize,
-        ..p
-    };
-    wait(words, b, q, Frame::Bound(n, x.span), Phase::Begin)
-}
-
-// An atom begins.
-pub fn atom(words: &mut [u32], b: Bounds, p: Place) -> Turn
-    requires { Ready 24 b p words.old }
-    ensures { Does b p words.old words.new do_atom result }
-{
-    let s = look(words, b.len, p.at);
-    let q = Place {
-        at: s.span.to as usize,
-        ..p
-    };
-    match s.token {
-        Token::Open => wait(words, b, q, Frame::Par(s.span.from), Phase::Begin),
-        Token::Number => put(words, b, q, Op::Number(s.span), SMALLEST),
-        Token::Name => named(words, b, q, s.span),
-        _ => Turn::Lost(p.at),
-    }
-}
-
-// Behind a name: a call of it, or itself.
-fn named(words: &mut [u32], b: Bounds, p: Place, f: Span) -> Turn
-    requires { Ready 24 b p words.old }
-    ensures { Does b p words.old words.new (after_name (span_of (line_of b words.old) f)) result }
-{
-    let s = look(words, b.len, p.at);
-    let q = Place {
-        at: s.span.to as usize,
-        ..p
-    };
-    match s.token {
-        Token::Open => call(words, b, q, f),
-        _ => put(words, b, p, Op::Name(f), SMALLEST),
-    }
-}
-
-// Behind a name and its bracket.
-fn call(words: &mut [u32], b: Bounds, p: Place, f: Span) -> Turn
-    requires { Ready 24 b p words.old }
-    ensures { Does b p words.old words.new (do_call (span_of (line_of b words.old) f)) result }
-{
-    let s = look(words, b.len, p.at);
-    match s.token {
-        Token::Close => {
-            emit(words, b.base, p.count, Op::Call(f, 0));
-            let q = Place {
-                at: s.span.to as usize,
-                count: p.count + 1,
-                ..p
-            };
-            put(words, b, q, Op::End(s.span.to), SMALLEST)
+impl Cursor {
+    // An expression begins.
+    pub fn begin(self, words: &mut [u32]) -> Result<Step, Wrong>
+        requires { Ready 24 self words.old }
+        ensures { Does self words.old words.new (λ _. do_begin) result }
+    {
+        let s = self.look(words);
+        match s.token {
+            Token::Let => s.behind.name_bound(words, s.span.from),
+            Token::If => s.behind.wait(words, Frame::Cond(s.span.from), Phase::Begin),
+            _ => Ok(Step::Go(Phase::Atom, self)),
         }
-        _ => put_wait(words, b, p, Op::Call(f, 0), Frame::Call(p.count as u32, 0)),
+    }
+
+    // Behind a let that began at a place: its name and =.
+    fn name_bound(self, words: &mut [u32], n: u32) -> Result<Step, Wrong>
+        requires { Ready 24 self words.old }
+        ensures { Does self words.old words.new (λ _. after_let n) result }
+    {
+        let x = self.expect(words, Token::Name)?;
+        let g = x.behind.expect(words, Token::Gets)?;
+        g.behind.wait(words, Frame::Bound(n, x.span), Phase::Begin)
+    }
+
+    // An atom begins.
+    pub fn atom(self, words: &mut [u32]) -> Result<Step, Wrong>
+        requires { Ready 24 self words.old }
+        ensures { Does self words.old words.new (λ _. do_atom) result }
+    {
+        let s = self.look(words);
+        match s.token {
+            Token::Open => s.behind.wait(words, Frame::Par(s.span.from), Phase::Begin),
+            Token::Number => s.behind.put(words, Op::Number(s.span), SMALLEST),
+            Token::Name => s.behind.named(words, s.span),
+            _ => Err(Wrong { at: self.at }),
+        }
+    }
+
+    // Behind a name: a call of it, or itself.
+    fn named(self, words: &mut [u32], f: Span) -> Result<Step, Wrong>
+        requires { Ready 24 self words.old }
+        ensures { Does self words.old words.new (λ line. after_name (span_of line f)) result }
+    {
+        let s = self.look(words);
+        match s.token {
+            Token::Open => s.behind.call(words, f),
+            _ => self.put(words, Op::Name(f), SMALLEST),
+        }
+    }
+
+    // Behind a name and its bracket.
+    fn call(self, words: &mut [u32], f: Span) -> Result<Step, Wrong>
+        requires { Ready 24 self words.old }
+        ensures { Does self words.old words.new (λ line. do_call (span_of line f)) result }
+    {
+        let s = self.look(words);
+        match s.token {
+            Token::Close => {
+                let q = s.behind.emit(words, Op::Call(f, 0));
+                q.put(words, Op::End(s.span.to), SMALLEST)
+            }
+            _ => {
+                let q = self.emit(words, Op::Call(f, 0));
+                q.wait(words, Frame::Call(self.count as u32, 0), Phase::Begin)
+            }
+        }
     }
 }

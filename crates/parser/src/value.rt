@@ -4,11 +4,10 @@ ghost use Rattle.lexer.specs.Kinds.{level_of};
 ghost use Rattle.grammar.specs.Machine.{f_par, f_call, f_bound, f_cond, f_then, base, do_value, do_dot, do_op, pop, made};
 ghost use Rattle.parser.specs.Rows.{frames_of, span_of, line_of, Ready, Few, Does, after_dot, goes_to};
 
-use crate::code::{Op, Span, emit, patch_count};
+use crate::code::{Op, Span, patch_count};
+use crate::parse::Wrong;
 use crate::stack::{Frame, newest};
-use crate::turn::{
-    Bounds, COMPARED, FIELDS, Phase, Place, SMALLEST, Turn, WHOLE, look, put, put_wait, wait,
-};
+use crate::turn::{COMPARED, Cursor, FIELDS, Phase, SMALLEST, Step, WHOLE};
 use lexer::token::{Operator, Token};
 
 // An operator's level, and the level of what it makes.
@@ -31,200 +30,152 @@ fn makes(o: Operator) -> u32
     if l == COMPARED { COMPARED } else { l + 1 }
 }
 
-// The level at which what is being read began.
-fn lowest(words: &[u32], d: usize) -> u32
-    requires { 4 * d ≤ length words.now }
-    ensures { (line : List ℕ) → result ≡ base (frames_of line d words.now) }
-{
-    if d == 0 {
-        return 1;
-    }
-    match newest(words, d) {
-        Frame::Right(o) => level(o) + 1,
-        _ => 1,
-    }
-}
-
-// A value of a level is there: what is next takes it in, or it goes to what waits.
-pub fn value(words: &mut [u32], b: Bounds, p: Place, l: u32) -> Turn
-    requires { (Ready 24 b p words.old) × (Few (frames_of (line_of b words.old) p.depth words.old)) }
-    ensures { Does b p words.old words.new (do_value l) result }
-{
-    if l <= lowest(words, p.depth) {
-        return deliver(words, b, p);
-    }
-    let j = l - 1;
-    if j == FIELDS {
-        return dot(words, b, p);
-    }
-    operation(words, b, p, j)
-}
-
-// A value of level 7: a field of it, or itself as one of level 6.
-fn dot(words: &mut [u32], b: Bounds, p: Place) -> Turn
-    requires { Ready 24 b p words.old }
-    ensures { Does b p words.old words.new do_dot result }
-{
-    let s = look(words, b.len, p.at);
-    let q = Place {
-        at: s.span.to as usize,
-        ..p
-    };
-    match s.token {
-        Token::Dot => field(words, b, q),
-        _ => Turn::Go(Phase::Value(FIELDS), p),
-    }
-}
-
-// Behind a dot.
-fn field(words: &mut [u32], b: Bounds, p: Place) -> Turn
-    requires { Ready 24 b p words.old }
-    ensures { Does b p words.old words.new after_dot result }
-{
-    let s = look(words, b.len, p.at);
-    let q = Place {
-        at: s.span.to as usize,
-        ..p
-    };
-    match s.token {
-        Token::Name => put(words, b, q, Op::Field(s.span), SMALLEST),
-        _ => Turn::Lost(p.at),
-    }
-}
-
-// A value of a level: an operator of that level takes it, or it is one of that level.
-fn operation(words: &mut [u32], b: Bounds, p: Place, j: u32) -> Turn
-    requires { Ready 24 b p words.old }
-    ensures { Does b p words.old words.new (do_op j) result }
-{
-    let s = look(words, b.len, p.at);
-    let Token::Sign(o) = s.token else {
-        return Turn::Go(Phase::Value(j), p);
-    };
-    if level(o) != j {
-        return Turn::Go(Phase::Value(j), p);
-    }
-    let q = Place {
-        at: s.span.to as usize,
-        ..p
-    };
-    wait(words, b, q, Frame::Right(o), Phase::Atom)
-}
-
-// A value goes to what waits for it.
-fn deliver(words: &mut [u32], b: Bounds, p: Place) -> Turn
-    requires { (Ready 24 b p words.old) × (Few (frames_of (line_of b words.old) p.depth words.old)) }
-    ensures { Does b p words.old words.new pop result }
-{
-    if p.depth == 0 {
-        return Turn::Won(p);
-    }
-    let q = Place {
-        depth: p.depth - 1,
-        ..p
-    };
-    match newest(words, p.depth) {
-        Frame::Par(n) => close(words, b, q, n),
-        Frame::Call(f, k) => argument(words, b, q, f, k),
-        Frame::Bound(n, x) => bound(words, b, q, n, x),
-        Frame::Body(n) => put(words, b, q, Op::Let(n), WHOLE),
-        Frame::Cond(n) => condition(words, b, q, n),
-        Frame::Then(n) => branch(words, b, q, n),
-        Frame::Else(n) => put(words, b, q, Op::If(n), WHOLE),
-        Frame::Right(o) => put(words, b, q, Op::Sign(o), makes(o)),
-    }
-}
-
-// A value stands in brackets that began at a place.
-fn close(words: &mut [u32], b: Bounds, p: Place, n: u32) -> Turn
-    requires { Ready 24 b p words.old }
-    ensures { Does b p words.old words.new (goes_to (f_par n)) result }
-{
-    let s = look(words, b.len, p.at);
-    let q = Place {
-        at: s.span.to as usize,
-        ..p
-    };
-    let all = Span {
-        from: n,
-        to: s.span.to,
-    };
-    match s.token {
-        Token::Close => put(words, b, q, Op::Par(all), SMALLEST),
-        _ => Turn::Lost(p.at),
-    }
-}
-
-// A value is an argument of the call that begins at operation f and has k before it.
-fn argument(words: &mut [u32], b: Bounds, p: Place, f: u32, k: u32) -> Turn
-    requires { (Ready 24 b p words.old) × (k < 4294967295) }
-    ensures { Does b p words.old words.new (goes_to (f_call f k)) result }
-{
-    let s = look(words, b.len, p.at);
-    let behind = s.span.to as usize;
-    match s.token {
-        Token::Comma => {
-            let q = Place { at: behind, ..p };
-            put_wait(words, b, q, Op::Arg, Frame::Call(f, k + 1))
+impl Cursor {
+    // The level at which what is being read began.
+    fn lowest(self, words: &[u32]) -> u32
+        requires { 4 * self.depth ≤ length words.now }
+        ensures { (line : List ℕ) → result ≡ base (frames_of line self.depth words.now) }
+    {
+        match newest(words, self.depth) {
+            Some(Frame::Right(o)) => level(o) + 1,
+            _ => 1,
         }
-        Token::Close => {
-            emit(words, b.base, p.count, Op::Arg);
-            patch_count(words, b.base, p.count + 1, f as usize, k + 1);
-            let q = Place {
-                at: behind,
-                count: p.count + 1,
-                ..p
-            };
-            put(words, b, q, Op::End(s.span.to), SMALLEST)
+    }
+
+    // A value of a level is there: what is next takes it in, or it goes to what waits.
+    pub fn value(self, words: &mut [u32], l: u32) -> Result<Step, Wrong>
+        requires { (Ready 24 self words.old) × (Few (frames_of (line_of self words.old) self.depth words.old)) }
+        ensures { Does self words.old words.new (λ _. do_value l) result }
+    {
+        if l <= self.lowest(words) {
+            return self.deliver(words);
         }
-        _ => Turn::Lost(p.at),
+        let j = l - 1;
+        if j == FIELDS {
+            return self.dot(words);
+        }
+        self.operation(words, j)
     }
-}
 
-// A value is what the let that began at a place binds to a name.
-fn bound(words: &mut [u32], b: Bounds, p: Place, n: u32, x: Span) -> Turn
-    requires { Ready 24 b p words.old }
-    ensures { Does b p words.old words.new (goes_to (f_bound n (span_of (line_of b words.old) x))) result }
-{
-    let s = look(words, b.len, p.at);
-    let q = Place {
-        at: s.span.to as usize,
-        ..p
-    };
-    match s.token {
-        Token::In => put_wait(words, b, q, Op::Bind(x), Frame::Body(n)),
-        _ => Turn::Lost(p.at),
+    // A value of level 7: a field of it, or itself as one of level 6.
+    fn dot(self, words: &mut [u32]) -> Result<Step, Wrong>
+        requires { Ready 24 self words.old }
+        ensures { Does self words.old words.new (λ _. do_dot) result }
+    {
+        let s = self.look(words);
+        match s.token {
+            Token::Dot => s.behind.field(words),
+            _ => Ok(Step::Go(Phase::Value(FIELDS), self)),
+        }
     }
-}
 
-// A value is the condition of the if that began at a place.
-fn condition(words: &mut [u32], b: Bounds, p: Place, n: u32) -> Turn
-    requires { Ready 24 b p words.old }
-    ensures { Does b p words.old words.new (goes_to (f_cond n)) result }
-{
-    let s = look(words, b.len, p.at);
-    let q = Place {
-        at: s.span.to as usize,
-        ..p
-    };
-    match s.token {
-        Token::Then => put_wait(words, b, q, Op::Cond, Frame::Then(n)),
-        _ => Turn::Lost(p.at),
+    // Behind a dot.
+    fn field(self, words: &mut [u32]) -> Result<Step, Wrong>
+        requires { Ready 24 self words.old }
+        ensures { Does self words.old words.new (λ _. after_dot) result }
+    {
+        let s = self.expect(words, Token::Name)?;
+        s.behind.put(words, Op::Field(s.span), SMALLEST)
     }
-}
 
-// A value is the first branch of the if that began at a place.
-fn branch(words: &mut [u32], b: Bounds, p: Place, n: u32) -> Turn
-    requires { Ready 24 b p words.old }
-    ensures { Does b p words.old words.new (goes_to (f_then n)) result }
-{
-    let s = look(words, b.len, p.at);
-    let q = Place {
-        at: s.span.to as usize,
-        ..p
-    };
-    match s.token {
-        Token::Else => wait(words, b, q, Frame::Else(n), Phase::Begin),
-        _ => Turn::Lost(p.at),
+    // A value of a level: an operator of that level takes it, or it is one of that level.
+    fn operation(self, words: &mut [u32], j: u32) -> Result<Step, Wrong>
+        requires { Ready 24 self words.old }
+        ensures { Does self words.old words.new (λ _. do_op j) result }
+    {
+        let s = self.look(words);
+        let Token::Sign(o) = s.token else {
+            return Ok(Step::Go(Phase::Value(j), self));
+        };
+        if level(o) != j {
+            return Ok(Step::Go(Phase::Value(j), self));
+        }
+        s.behind.wait(words, Frame::Right(o), Phase::Atom)
+    }
+
+    // A value goes to what waits for it.
+    fn deliver(self, words: &mut [u32]) -> Result<Step, Wrong>
+        requires { (Ready 24 self words.old) × (Few (frames_of (line_of self words.old) self.depth words.old)) }
+        ensures { Does self words.old words.new (λ _. pop) result }
+    {
+        let Some(frame) = newest(words, self.depth) else {
+            return Ok(Step::Won(self));
+        };
+        let q = Cursor {
+            depth: self.depth - 1,
+            ..self
+        };
+        match frame {
+            Frame::Par(n) => q.close(words, n),
+            Frame::Call(f, k) => q.argument(words, f, k),
+            Frame::Bound(n, x) => q.bound(words, n, x),
+            Frame::Body(n) => q.put(words, Op::Let(n), WHOLE),
+            Frame::Cond(n) => q.condition(words, n),
+            Frame::Then(n) => q.branch(words, n),
+            Frame::Else(n) => q.put(words, Op::If(n), WHOLE),
+            Frame::Right(o) => q.put(words, Op::Sign(o), makes(o)),
+        }
+    }
+
+    // A value stands in brackets that began at a place.
+    fn close(self, words: &mut [u32], n: u32) -> Result<Step, Wrong>
+        requires { Ready 24 self words.old }
+        ensures { Does self words.old words.new (λ _. goes_to (f_par n)) result }
+    {
+        let s = self.expect(words, Token::Close)?;
+        let all = Span {
+            from: n,
+            to: s.span.to,
+        };
+        s.behind.put(words, Op::Par(all), SMALLEST)
+    }
+
+    // A value is an argument of the call that begins at operation f and has k before it.
+    fn argument(self, words: &mut [u32], f: u32, k: u32) -> Result<Step, Wrong>
+        requires { (Ready 24 self words.old) × (k < 4294967295) }
+        ensures { Does self words.old words.new (λ _. goes_to (f_call f k)) result }
+    {
+        let s = self.look(words);
+        match s.token {
+            Token::Comma => {
+                let q = s.behind.emit(words, Op::Arg);
+                q.wait(words, Frame::Call(f, k + 1), Phase::Begin)
+            }
+            Token::Close => {
+                let q = s.behind.emit(words, Op::Arg);
+                patch_count(words, q.base, q.count, f as usize, k + 1);
+                q.put(words, Op::End(s.span.to), SMALLEST)
+            }
+            _ => Err(Wrong { at: self.at }),
+        }
+    }
+
+    // A value is what the let that began at a place binds to a name.
+    fn bound(self, words: &mut [u32], n: u32, x: Span) -> Result<Step, Wrong>
+        requires { Ready 24 self words.old }
+        ensures { Does self words.old words.new (λ line. goes_to (f_bound n (span_of line x))) result }
+    {
+        let s = self.expect(words, Token::In)?;
+        let q = s.behind.emit(words, Op::Bind(x));
+        q.wait(words, Frame::Body(n), Phase::Begin)
+    }
+
+    // A value is the condition of the if that began at a place.
+    fn condition(self, words: &mut [u32], n: u32) -> Result<Step, Wrong>
+        requires { Ready 24 self words.old }
+        ensures { Does self words.old words.new (λ _. goes_to (f_cond n)) result }
+    {
+        let s = self.expect(words, Token::Then)?;
+        let q = s.behind.emit(words, Op::Cond);
+        q.wait(words, Frame::Then(n), Phase::Begin)
+    }
+
+    // A value is the first branch of the if that began at a place.
+    fn branch(self, words: &mut [u32], n: u32) -> Result<Step, Wrong>
+        requires { Ready 24 self words.old }
+        ensures { Does self words.old words.new (λ _. goes_to (f_then n)) result }
+    {
+        let s = self.expect(words, Token::Else)?;
+        s.behind.wait(words, Frame::Else(n), Phase::Begin)
     }
 }

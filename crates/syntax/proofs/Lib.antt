@@ -1,6 +1,6 @@
 pub mod Taken
 pub mod Coded
-pub mod Listing
 pub mod Progress
+pub mod Listing
 pub mod Whole
 pub mod Views

@@ -1,88 +1,101 @@
--- A line read so far, part by part: what stands is the code of its beginning, and what is still to be read is known.
-use Rattle.std.proofs.Common.{◌≡◌, ℕ, List, [], ◌∷◌, ◌++◌, take, Ok, sym, refl, ap, ◌∙◌, subst, append_assoc, append-nil}
+-- Parts of an item read one behind another: what stands is the code of its beginning, and the rest is read from there.
+use Rattle.std.proofs.Common.{◌≡◌, ℕ, ◌≤◌, List, [], ◌∷◌, ◌++◌, take, Ok, Err, Result, sym, refl, ap, ◌∙◌, subst, append_assoc, arith}
+use Rattle.std.specs.Result.{IsErrAnd}
+use Rattle.std.proofs.lemmas.List.{take-take}
+use Rattle.std.proofs.lemmas.Result.{err_from_is_err_and}
 use Rattle.lexer.specs.Tokens.{Tok, left}
-use Rattle.grammar.specs.Grammar.{Got, it, bad}
-use Rattle.grammar.specs.Code.{Op, o_body}
+use Rattle.grammar.specs.Grammar.{Got, it, bad, with1}
+use Rattle.grammar.specs.Code.{Op}
 use Rattle.parser.specs.Rows.{ops_of}
-use Rattle.syntax.specs.Reads.{after, then, ends, start_ops, params_ops, result_ops, body_ops, def_ops, ReadsSays, BodySays}
-use Rattle.syntax.specs.declared.lists.Listed.TheVariants.{Fields}
-use Rattle.syntax.specs.declared.wanted.Wanted.TheVariants.{Open}
-use Rattle.syntax.specs.declared.lists.Place.{Place}
+use Rattle.parser.specs.declared.parse.Wrong.{Wrong}
+use Rattle.syntax.specs.Reads.{after, then, ends, line_of, Took, Lost, Emits, Grew, Says, Does}
+use Rattle.syntax.specs.declared.reading.Reading.{Reading}
 
--- whole is what is to be read; n operations stood in ws at the beginning, count stand in vs now; rest is to be read from at on
-pub record Progress (line : List ℕ) (base n : ℕ) (ws : List ℕ) (whole : Got (List Op)) (vs : List ℕ) (rest : List Tok → Got (List Op)) (at count : ℕ) : Type 0 where
-  pub done : List Op
-  pub reads : whole ≡ after done (rest (left line at))
-  pub stands : ops_of line base count vs ≡ ops_of line base n ws ++ done
+-- what is read, by the line
+abbrev pub Act : Type 0
+Act = List ℕ → List Tok → Got (List Op)
 
-after_none : (g : Got (List Op)) → g ≡ after [] g
-after_none (it ps us) = refl
-after_none (bad us) = refl
+-- the words of the line stay while what is behind base is written
+pub same_line : (r : Reading) (ws vs : List ℕ) → r.len ≤ r.base → take r.base vs ≡ take r.base ws → line_of r vs ≡ line_of r ws
+same_line r ws vs h e = sym (take-take r.len r.base vs h) ∙ ap (take r.len) e ∙ take-take r.len r.base ws h
 
-after_twice : (os ps : List Op) (g : Got (List Op)) → after os (after ps g) ≡ after (os ++ ps) g
-after_twice os ps (it qs us) = ap (λ l. it l us) (sym (append_assoc os ps qs))
-after_twice os ps (bad us) = refl
+-- behind one part the next
+joined : (line : List ℕ) (r q : Reading) (ws us vs : List ℕ) (g : Got (List Op)) (f : List Tok → Got (List Op)) (a : Result Reading Wrong) → Grew line r ws us g q → Says line (record q { len = r.len; base = r.base }) us vs (f (left line q.at)) a → Says line r ws vs (then g f) a
+joined line r q ws us vs g f (Ok z) d w =
+    record {
+      done = d.done ++ w.done;
+      reads = ap (λ g. then g f) d.reads ∙ ap (after d.done) w.reads;
+      stands = w.stands ∙ ap (λ l. l ++ w.done) d.stands ∙ append_assoc (ops_of line r.base r.count ws) d.done w.done;
+      beside = record { len_is = w.beside.len_is; base_is = w.beside.base_is };
+      within = w.within;
+    }
+joined line r q ws us vs g f (Err x) d w = ap (λ g. then g f) d.reads ∙ ap (after d.done) w
 
-pub starts : (line : List ℕ) (base n : ℕ) (ws : List ℕ) (rest : List Tok → Got (List Op)) (at : ℕ) → Progress line base n ws (rest (left line at)) ws rest at n
-starts line base n ws rest at = record { done = []; reads = after_none (rest (left line at)); stands = sym (append-nil (ops_of line base n ws)) }
+pub chain : {r q : Reading} {ws us vs : List ℕ} {F G : Act} {a : Result Reading Wrong} → r.len ≤ r.base → Does r ws us F (Ok q) → Does q us vs G a → Does r ws vs (λ line ts. then (F line ts) (G line)) a
+chain {r = r} {q = q} {ws = ws} {us = us} {vs = vs} {F = F} {G = G} {a = a} l d e =
+    let line = line_of r ws in
+    let b = d.reads.beside in
+    let here : q ≡ record q { len = r.len; base = r.base } = λ i. record q { len = b.len_is i; base = b.base_is i } in
+    let there = subst (λ q. Does q us vs G a) here e in
+    let s = subst (λ line. Says line (record q { len = r.len; base = r.base }) us vs (G line (left line q.at)) a) (same_line r ws us l d.front) there.reads in
+    record { front = there.front ∙ d.front; reads = joined line r q ws us vs (F line (left line r.at)) (G line) a d.reads s }
 
-module _ (line : List ℕ) (base n : ℕ) (ws : List ℕ) (whole : Got (List Op)) (vs : List ℕ) (f rest : List Tok → Got (List Op)) (at count : ℕ) (h : Progress line base n ws whole vs (λ us. then (f us) rest) at count) (l : List ℕ) (e : l ≡ line) where
-  -- the next part is read
-  pub steps_by : (zs : List ℕ) (p : Place) → (os : List Op) × (f (left l at) ≡ it os (left l p.at)) × (ops_of l base p.count zs ≡ ops_of l base count vs ++ os) → Progress line base n ws whole zs rest p.at p.count
-  steps_by zs p r₀ =
-      let r = subst (λ l. (os : List Op) × (f (left l at) ≡ it os (left l p.at)) × (ops_of l base p.count zs ≡ ops_of l base count vs ++ os)) e r₀ in
-      record { done = h.done ++ r.0; reads = h.reads ∙ ap (λ g. after h.done (then g rest)) r.1 ∙ after_twice h.done r.0 (rest (left line p.at)); stands = r.2 ∙ ap (λ os. os ++ r.0) h.stands ∙ append_assoc (ops_of line base n ws) h.done r.0 }
+pub still : {r q : Reading} {ws vs : List ℕ} {F : Act} → r.len ≤ r.base → Does r ws vs F (Ok q) → q.len ≤ q.base
+still l d = let b = d.reads.beside in omega arith
 
-  pub steps : (zs : List ℕ) (p : Place) → ReadsSays l base count vs zs (f (left l at)) (Ok p) → Progress line base n ws whole zs rest p.at p.count
-  steps zs p r = steps_by zs p (r.0, r.1, r.2)
+pub stopped : {r : Reading} {ws vs : List ℕ} {F : Act} {w : Wrong} (G : Act) → Does r ws vs F (Err w) → Does r ws vs (λ line ts. then (F line ts) (G line)) (Err w)
+stopped {r = r} {ws = ws} G d = record { front = d.front; reads = ap (λ g. then g (G (line_of r ws))) d.reads }
 
-  -- or isn't understood
-  pub fails : (w : ℕ) → f (left l at) ≡ bad (left l w) → whole ≡ bad (left line w)
-  fails w r = h.reads ∙ ap (λ g. after h.done (then g rest)) (subst (λ l. f (left l at) ≡ bad (left l w)) e r)
+-- behind a piece the rest; x is what was taken, by the line
+found : {A : Type 0} (line : List ℕ) (r : Reading) (ws vs : List ℕ) (g : Got A) (x : A) (f : A → List Tok → Got (List Op)) (to : ℕ) (a : Result Reading Wrong) → g ≡ it x (left line to) → Says line (record r { at = to }) ws vs (f x (left line to)) a → Says line r ws vs (with1 g f) a
+found line r ws vs g x f to (Ok z) e w = record { done = w.done; reads = ap (λ g. with1 g f) e ∙ w.reads; stands = w.stands; beside = record { len_is = w.beside.len_is; base_is = w.beside.base_is }; within = w.within }
+found line r ws vs g x f to (Err y) e w = ap (λ g. with1 g f) e ∙ w
 
-module _ (line : List ℕ) (base n : ℕ) (ws : List ℕ) (whole : Got (List Op)) (vs : List ℕ) (rest : List Tok → Got (List Op)) (at count : ℕ) (h : Progress line base n ws whole vs rest at count) where
-  -- the last part
-  pub ends_well : (os : List Op) → rest (left line at) ≡ it os (left line at) → (whole ≡ it (h.done ++ os) (left line at))
-  ends_well os r = h.reads ∙ ap (after h.done) r
+pub took : {A : Type 0} {r q : Reading} {ws vs : List ℕ} {F : List Tok → Got A} {a : Result Reading Wrong} (G : List ℕ → A → List Tok → Got (List Op)) (x : List ℕ → A) → Took r ws F (x (line_of r ws)) q → Does q ws vs (λ line. G line (x line)) a → Does r ws vs (λ line ts. with1 (F ts) (G line)) a
+took {r = r} {q = q} {ws = ws} {vs = vs} {F = F} {a = a} G x t e =
+    let line = line_of r ws in
+    let b = t.beside in
+    let here : q ≡ record r { at = q.at } = λ i. record q { len = b.len_is i; base = b.base_is i; count = t.count_is i } in
+    let there = subst (λ q. Does q ws vs (λ line. G line (x line)) a) here e in
+    record { front = there.front; reads = found line r ws vs (F (left line r.at)) (x line) (G line) q.at a t.reads there.reads }
 
-  pub ends_badly : (w : ℕ) → rest (left line at) ≡ bad (left line w) → whole ≡ bad (left line w)
-  ends_badly w r = h.reads ∙ ap (after h.done) r
+pub missed : {A : Type 0} {r : Reading} {ws : List ℕ} {w : Wrong} (F : List Tok → Got A) (G : List ℕ → A → List Tok → Got (List Op)) → Lost r ws F w → Does r ws ws (λ line ts. with1 (F ts) (G line)) (Err w)
+missed {r = r} {ws = ws} F G h = record { front = refl; reads = ap (λ g. with1 g (G (line_of r ws))) h }
 
--- a def, part by part
-abbrev pub from_body : List Tok → Got (List Op)
-from_body us = then (body_ops us) (ends (o_body ∷ []))
+-- one operation, by another name
+pub emitted : {r q : Reading} {ws vs : List ℕ} {o : List ℕ → Op} (p : List ℕ → Op) → ((line : List ℕ) → o line ≡ p line) → Emits r ws vs o q → Does r ws vs (λ line us. it (p line ∷ []) us) (Ok q)
+emitted {r = r} {q = q} {ws = ws} {vs = vs} p n e =
+    let line = line_of r ws in
+    record {
+      front = e.front;
+      reads = record {
+        done = p line ∷ [];
+        reads = ap (λ a. it (p line ∷ []) (left line a)) (sym e.at_is);
+        stands = ap (λ n. ops_of line r.base n vs) e.count_is ∙ e.adds ∙ ap (λ o. ops_of line r.base r.count ws ++ (o ∷ [])) (n line);
+        beside = record { len_is = e.beside.len_is; base_is = e.beside.base_is };
+        within = let a = e.at_is in let l = e.within in omega arith;
+      };
+    }
 
-abbrev pub from_result : List Tok → Got (List Op)
-from_result us = then (result_ops us) from_body
+-- nothing was left, and an operation ends the item
+ends_more : (os ps : List Op) (ts us : List Tok) → ends [] ts ≡ it ps us → ends os ts ≡ it os ts
+ends_more os ps [] us e = refl
+ends_more os ps (t ∷ ts) us e = let z : ◌≡◌ {A = ℕ} 0 1 = cc in absurd (omega arith)
 
-abbrev pub from_params : List Tok → Got (List Op)
-from_params us = then (params_ops us) from_result
+ends_less : (os : List Op) (ts us : List Tok) → ends [] ts ≡ bad us → ends os ts ≡ bad us
+ends_less os [] us e = let z : ◌≡◌ {A = ℕ} 0 1 = cc in absurd (omega arith)
+ends_less os (t ∷ ts) us e = e
 
-module _ (len base from : ℕ) (ws : List ℕ) where
-  abbrev line : List ℕ
-  line = take len ws
+pub ended : {r q z : Reading} {ws vs : List ℕ} {o : List ℕ → Op} → Does r ws ws (λ _. ends []) (Ok z) → Emits r ws vs o q → Does r ws vs (λ line. ends (o line ∷ [])) (Ok q)
+ended {r = r} {z = z} {ws = ws} {o = o} d e =
+    let line = line_of r ws in
+    let here = emitted o (λ line. refl) e in
+    let w = here.reads in
+    record { front = here.front; reads = record { done = w.done; reads = ends_more (o line ∷ []) d.reads.done (left line r.at) (left line z.at) d.reads.reads ∙ w.reads; stands = w.stands; beside = w.beside; within = w.within } }
 
-  abbrev At : List ℕ → (List Tok → Got (List Op)) → ℕ → ℕ → Type 0
-  At vs rest at count = Progress line base 0 ws (def_ops (left line from)) vs rest at count
+pub not_ended : {r : Reading} {ws : List ℕ} {w : Wrong} (o : List ℕ → Op) → Does r ws ws (λ _. ends []) (Err w) → Does r ws ws (λ line. ends (o line ∷ [])) (Err w)
+not_ended {r = r} {ws = ws} {w = w} o d = let line = line_of r ws in record { front = d.front; reads = ends_less (o line ∷ []) (left line r.at) (left line w.at) d.reads }
 
-  pub def_1 : (vs : List ℕ) (s : Place) → ReadsSays line base 0 ws vs (start_ops Fields Open (left line from)) (Ok s) → At vs from_params s.at s.count
-  def_1 vs s r = steps line base 0 ws (def_ops (left line from)) ws (start_ops Fields Open) from_params from 0 (starts line base 0 ws def_ops from) line refl vs s r
-
-  module _ (vs : List ℕ) (at count : ℕ) (l : take len vs ≡ take len ws) where
-    pub def_2 : At vs from_params at count → (zs : List ℕ) (p : Place) → ReadsSays (take len vs) base count vs zs (params_ops (left (take len vs) at)) (Ok p) → At zs from_result p.at p.count
-    def_2 q zs p r = steps line base 0 ws (def_ops (left line from)) vs params_ops from_result at count q (take len vs) l zs p r
-
-    pub def_3 : At vs from_result at count → (zs : List ℕ) (p : Place) → ReadsSays (take len vs) base count vs zs (result_ops (left (take len vs) at)) (Ok p) → At zs from_body p.at p.count
-    def_3 q zs p r = steps line base 0 ws (def_ops (left line from)) vs result_ops from_body at count q (take len vs) l zs p r
-
-    pub def_4 : At vs from_body at count → (zs : List ℕ) (p : Place) → BodySays (take len vs) base count vs zs (body_ops (left (take len vs) at)) (Ok p) → At zs (ends (o_body ∷ [])) p.at p.count
-    def_4 q zs p r = steps_by line base 0 ws (def_ops (left line from)) vs body_ops (ends (o_body ∷ [])) at count q (take len vs) l zs p (r.0, r.1, r.2)
-
-    pub def_bad_2 : At vs from_params at count → (w : ℕ) → params_ops (left (take len vs) at) ≡ bad (left (take len vs) w) → def_ops (left line from) ≡ bad (left line w)
-    def_bad_2 q w r = fails line base 0 ws (def_ops (left line from)) vs params_ops from_result at count q (take len vs) l w r
-
-    pub def_bad_3 : At vs from_result at count → (w : ℕ) → result_ops (left (take len vs) at) ≡ bad (left (take len vs) w) → def_ops (left line from) ≡ bad (left line w)
-    def_bad_3 q w r = fails line base 0 ws (def_ops (left line from)) vs result_ops from_body at count q (take len vs) l w r
-
-    pub def_bad_4 : At vs from_body at count → (w : ℕ) → body_ops (left (take len vs) at) ≡ bad (left (take len vs) w) → def_ops (left line from) ≡ bad (left line w)
-    def_bad_4 q w r = fails line base 0 ws (def_ops (left line from)) vs body_ops (ends (o_body ∷ [])) at count q (take len vs) l w r
+-- what a ? hands on
+pub fails : {r : Reading} {ws vs : List ℕ} {F : Act} {w : Wrong} (a : Result Reading Wrong) → IsErrAnd a (λ e. e ≡ w) → Does r ws vs F (Err w) → Does r ws vs F a
+fails {r = r} {ws = ws} {vs = vs} {F = F} a h d = let y = err_from_is_err_and a h in subst (λ a. Does r ws vs F a) (sym (y.1 ∙ ap Err y.2)) d

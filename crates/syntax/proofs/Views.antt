@@ -1,6 +1,6 @@
 -- Parts of rows of operations, and items found again from their code.
-use Rattle.std.proofs.Common.{◌≡◌, ℕ, zero, suc, ◌+◌, ◌-◌, ◌*◌, ◌<◌, ◌≤◌, min, true, false, List, [], ◌∷◌, length, get_or, take, drop, Some, None, sym, refl, ap, ◌∙◌, inl, inr, arith}
-use Rattle.std.specs.List.{slice_get}
+use Rattle.std.proofs.Common.{◌≡◌, ℕ, zero, suc, ◌+◌, ◌-◌, ◌*◌, ◌/◌, ◌<◌, ◌≤◌, min, Bool, true, false, cond, List, [], ◌∷◌, length, get_or, take, drop, Some, None, sym, refl, ap, ◌∙◌, inl, inr, arith}
+use Rattle.std.specs.List.{slice_get, range_with_len, prefix_len}
 use Rattle.std.proofs.lemmas.List.{take_all, drop_all, length-take}
 use Rattle.std.proofs.lemmas.Slice.{between_is}
 use Rattle.std.proofs.lemmas.Bool.{cases_lt}
@@ -9,7 +9,7 @@ use Rattle.lexer.specs.Tokens.{Tok}
 use Rattle.grammar.specs.Grammar.{E, Field, Item as Meant, nothing, i_use, i_kind, i_rec, i_def, i_bad}
 use Rattle.grammar.specs.Code.{Op as Flat, onto, slots_onto, item_code, o_new, o_slot, o_result, o_body}
 use Rattle.parser.specs.Rows.{ops, op_of}
-use Rattle.syntax.specs.View.{lead, slot_in}
+use Rattle.syntax.specs.View.{is_slot, lead, slot_in}
 
 -- a part of a row, as far as the row goes
 pub part_is : (xs : List ℕ) (from to start end : ℕ) → end ≡ min to (length xs) → start ≡ min from end → take (end - start) (drop start xs) ≡ take (to - from) (drop from xs)
@@ -73,17 +73,32 @@ pub first_is : (os : List Flat) (o : Flat) → slice_get os 0 ≡ Some o → os 
 first_is [] o e = let z : ◌≡◌ {A = ℕ} 0 1 = cc in absurd (omega arith)
 first_is (p ∷ os) o e = cc
 
--- how many slots lead: one more, or no more
-pub lead_more : (os : List Flat) (n : ℕ) → slot_in (slice_get os n) ≡ true → lead (drop n os) ≡ suc (lead (drop (suc n) os))
-lead_more [] n h = let z : ◌≡◌ {A = ℕ} 0 1 = cc in absurd (omega arith)
-lead_more (o ∷ os) zero h = ap (λ b. pick b (suc (lead os)) 0) h
-lead_more (o ∷ os) (suc n) h = lead_more os n h
+-- five words an operation
+pub ops_length : (line code : List ℕ) → length (ops line code) ≡ length code / 5
+ops_length line [] = refl
+ops_length line (t ∷ []) = refl
+ops_length line (t ∷ a ∷ []) = refl
+ops_length line (t ∷ a ∷ b ∷ []) = refl
+ops_length line (t ∷ a ∷ b ∷ c ∷ []) = refl
+ops_length line (t ∷ a ∷ b ∷ c ∷ d ∷ ws) = omega (arith, ops_length line ws)
 
-pub lead_ends : (os : List Flat) (n : ℕ) → slot_in (slice_get os n) ≡ false → lead (drop n os) ≡ 0
-lead_ends [] zero h = refl
-lead_ends [] (suc n) h = refl
-lead_ends (o ∷ os) zero h = ap (λ b. pick b (suc (lead os)) 0) h
-lead_ends (o ∷ os) (suc n) h = lead_ends os n h
+-- how many slots lead, by the numbers of operations
+shifts : (p q : ℕ → Bool) (a b n : ℕ) → ((k : ℕ) → p (a + k) ≡ q (b + k)) → prefix_len p (range_with_len a n) ≡ prefix_len q (range_with_len b n)
+shifts p q a b zero h = refl
+shifts p q a b (suc n) h =
+    let on : (k : ℕ) → p (a + 1 + k) ≡ q (b + 1 + k) = λ k. let x : a + 1 + k ≡ a + (1 + k) = omega arith in let y : b + (1 + k) ≡ b + 1 + k = omega arith in ap p x ∙ h (1 + k) ∙ ap q y in
+    let here : p a ≡ q b = let x : a ≡ a + 0 = omega arith in let y : b + 0 ≡ b = omega arith in ap p x ∙ h 0 ∙ ap q y in
+    λ i. cond (here i) (1 + shifts p q (a + 1) (b + 1) n on i) 0
+
+pub lead_is : (os : List Flat) → lead os ≡ prefix_len (λ i. slot_in (slice_get os i)) (range_with_len 0 (length os))
+lead_is [] = refl
+lead_is (o ∷ os) =
+    let rest : prefix_len (λ i. slot_in (slice_get (o ∷ os) i)) (range_with_len (0 + 1) (length os)) ≡ prefix_len (λ i. slot_in (slice_get os i)) (range_with_len 0 (length os)) = shifts (λ i. slot_in (slice_get (o ∷ os) i)) (λ i. slot_in (slice_get os i)) (0 + 1) 0 (length os) (λ k. let x : 0 + 1 + k ≡ suc k = omega arith in let y : k ≡ 0 + k = omega arith in ap (λ m. slot_in (slice_get (o ∷ os) m)) x ∙ ap (λ m. slot_in (slice_get os m)) y) in
+    go (is_slot o) (lead os) _ (lead_is os ∙ sym rest)
+  where
+    go : (b : Bool) (m n : ℕ) → m ≡ n → pick b (suc m) 0 ≡ cond b (1 + n) 0
+    go true m n e = omega arith
+    go false m n e = refl
 
 lead_slots : (fs : List Field) (os : List Flat) → lead os ≡ 0 → lead (slots_onto fs os) ≡ length fs
 lead_slots [] os h = h

@@ -1,14 +1,13 @@
 -- From how a line begins and what was read behind its first word to what the line is.
-use Rattle.std.proofs.Common.{◌≡◌, ℕ, zero, suc, ◌≤◌, Bool, true, false, List, [], ◌∷◌, length, Ok, Err, Result, sym, refl, ap, ◌∙◌, subst, arith}
-use mathlib.Core.Bool.{false≢true}
+use Rattle.std.proofs.Common.{◌≡◌, ℕ, zero, suc, ◌≤◌, Bool, true, false, List, [], ◌∷◌, ◌++◌, length, take, Ok, Err, Result, sym, refl, ap, ◌∙◌, subst, arith}
 use Rattle.base.specs.Base.{pick, Word, same}
 use Rattle.lexer.specs.Tokens.{Tok, left, piece, next, end_of}
 use Rattle.lexer.specs.Words.{k_use, k_kind, k_rec, k_def, is_name, is_type, t_gets, t_lp, t_rp}
 use Rattle.lexer.specs.Kinds.{token_of}
-use Rattle.lexer.specs.Seen.{SeenSays, NextAt, StandsIf, is_end}
+use Rattle.lexer.specs.Seen.{SeenSays, NextAt, NoneAt, Stands, StandsIf, is_end}
 use Rattle.lexer.specs.declared.reader.Seen.{Seen}
 use Rattle.lexer.specs.declared.token.Token.{Token}
-use Rattle.lexer.specs.declared.token.Token.TheVariants.{Use, Kind, Rec, Def, Let, In, If, Then, Else, Num, Bool as TypeBool, Open, Close, Comma, Gets, Dot, Sign, Number, BadNumber, Name, Other, End}
+use Rattle.lexer.specs.declared.token.Token.TheVariants.{Use, Kind, Rec, Def, End}
 use Rattle.lexer.proofs.Facts.{facts, is_use, is_kind, is_rec, is_def}
 use Rattle.grammar.specs.Grammar.{Item, nothing, i_use, i_kind, i_rec, i_def, Got, it, bad, with1, eat, a_word, ended, settled, item_of}
 use Rattle.grammar.specs.Code.{Op, item_code}
@@ -16,174 +15,13 @@ use Rattle.grammar.proofs.Free.{an_expr}
 use Rattle.grammar.proofs.Items.{an_item, a_names, a_list, a_params, item_free}
 use Rattle.lexer.specs.Theorems.{Rising}
 use Rattle.lexer.proofs.Rises.{pieces_rise}
-use Rattle.syntax.specs.declared.wanted.Wrong.{Wrong}
-use Rattle.syntax.specs.Reads.{coded, item_ops, use_ops, block_ops, def_ops, ItemSays}
+use Rattle.parser.specs.declared.parse.Wrong.{Wrong}
+use Rattle.parser.proofs.Words.{ops_none}
+use Rattle.syntax.specs.Reads.{coded, item_ops, use_ops, block_ops, def_ops, Does}
 use Rattle.syntax.specs.Line.{Understood, ItemRead}
-use Rattle.syntax.specs.Begins.{start_of}
-use Rattle.syntax.specs.declared.start.Start.{Start}
-use Rattle.syntax.specs.declared.start.Start.TheVariants.{Nothing, AUse, AKind, ARecord, ADef, NoItem}
+use Rattle.syntax.specs.declared.reading.Reading.{Reading}
 use Rattle.syntax.specs.declared.lists.Listed.TheVariants.{Names, Fields}
 use Rattle.syntax.proofs.Coded.{item_coded}
-
-abbrev begins_use : Start → Bool
-begins_use Nothing = false
-begins_use AUse = true
-begins_use AKind = false
-begins_use ARecord = false
-begins_use ADef = false
-begins_use NoItem = false
-
-use_start : (t : Token) → is_use t ≡ begins_use (start_of t)
-use_start Use = refl
-use_start Kind = refl
-use_start Rec = refl
-use_start Def = refl
-use_start Let = refl
-use_start In = refl
-use_start If = refl
-use_start Then = refl
-use_start Else = refl
-use_start Num = refl
-use_start TypeBool = refl
-use_start Open = refl
-use_start Close = refl
-use_start Comma = refl
-use_start Gets = refl
-use_start Dot = refl
-use_start (Sign o) = refl
-use_start Number = refl
-use_start BadNumber = refl
-use_start Name = refl
-use_start Other = refl
-use_start End = refl
-
-abbrev begins_kind : Start → Bool
-begins_kind Nothing = false
-begins_kind AUse = false
-begins_kind AKind = true
-begins_kind ARecord = false
-begins_kind ADef = false
-begins_kind NoItem = false
-
-kind_start : (t : Token) → is_kind t ≡ begins_kind (start_of t)
-kind_start Use = refl
-kind_start Kind = refl
-kind_start Rec = refl
-kind_start Def = refl
-kind_start Let = refl
-kind_start In = refl
-kind_start If = refl
-kind_start Then = refl
-kind_start Else = refl
-kind_start Num = refl
-kind_start TypeBool = refl
-kind_start Open = refl
-kind_start Close = refl
-kind_start Comma = refl
-kind_start Gets = refl
-kind_start Dot = refl
-kind_start (Sign o) = refl
-kind_start Number = refl
-kind_start BadNumber = refl
-kind_start Name = refl
-kind_start Other = refl
-kind_start End = refl
-
-abbrev begins_rec : Start → Bool
-begins_rec Nothing = false
-begins_rec AUse = false
-begins_rec AKind = false
-begins_rec ARecord = true
-begins_rec ADef = false
-begins_rec NoItem = false
-
-rec_start : (t : Token) → is_rec t ≡ begins_rec (start_of t)
-rec_start Use = refl
-rec_start Kind = refl
-rec_start Rec = refl
-rec_start Def = refl
-rec_start Let = refl
-rec_start In = refl
-rec_start If = refl
-rec_start Then = refl
-rec_start Else = refl
-rec_start Num = refl
-rec_start TypeBool = refl
-rec_start Open = refl
-rec_start Close = refl
-rec_start Comma = refl
-rec_start Gets = refl
-rec_start Dot = refl
-rec_start (Sign o) = refl
-rec_start Number = refl
-rec_start BadNumber = refl
-rec_start Name = refl
-rec_start Other = refl
-rec_start End = refl
-
-abbrev begins_def : Start → Bool
-begins_def Nothing = false
-begins_def AUse = false
-begins_def AKind = false
-begins_def ARecord = false
-begins_def ADef = true
-begins_def NoItem = false
-
-def_start : (t : Token) → is_def t ≡ begins_def (start_of t)
-def_start Use = refl
-def_start Kind = refl
-def_start Rec = refl
-def_start Def = refl
-def_start Let = refl
-def_start In = refl
-def_start If = refl
-def_start Then = refl
-def_start Else = refl
-def_start Num = refl
-def_start TypeBool = refl
-def_start Open = refl
-def_start Close = refl
-def_start Comma = refl
-def_start Gets = refl
-def_start Dot = refl
-def_start (Sign o) = refl
-def_start Number = refl
-def_start BadNumber = refl
-def_start Name = refl
-def_start Other = refl
-def_start End = refl
-
-abbrev no_piece : Start → Bool
-no_piece Nothing = true
-no_piece AUse = false
-no_piece AKind = false
-no_piece ARecord = false
-no_piece ADef = false
-no_piece NoItem = false
-
-end_start : (t : Token) → is_end t ≡ no_piece (start_of t)
-end_start Use = refl
-end_start Kind = refl
-end_start Rec = refl
-end_start Def = refl
-end_start Let = refl
-end_start In = refl
-end_start If = refl
-end_start Then = refl
-end_start Else = refl
-end_start Num = refl
-end_start TypeBool = refl
-end_start Open = refl
-end_start Close = refl
-end_start Comma = refl
-end_start Gets = refl
-end_start Dot = refl
-end_start (Sign o) = refl
-end_start Number = refl
-end_start BadNumber = refl
-end_start Name = refl
-end_start Other = refl
-end_start End = refl
 
 -- what is read is never an item that isn't understood
 abbrev Fine : Got Item → Type 0
@@ -232,70 +70,69 @@ reads_badly t ts vs e = go (an_item t ts) refl (item_coded t ts ∙ e)
     go (bad us) p q = let y : us ≡ vs = cc in item_free t ts ∙ ap (settled (t ∷ ts)) (p ∙ ap bad y)
 
 -- the items by how the line begins
-abbrev by_start : Start → Tok → List Tok → Got (List Op)
-by_start Nothing t ts = bad (t ∷ ts)
-by_start AUse t ts = use_ops ts
-by_start AKind t ts = block_ops Names ts
-by_start ARecord t ts = block_ops Fields ts
-by_start ADef t ts = def_ops ts
-by_start NoItem t ts = bad (t ∷ ts)
+abbrev pub by_token : Token → Tok → List Tok → Got (List Op)
+by_token Use t ts = use_ops ts
+by_token Kind t ts = block_ops Names ts
+by_token Rec t ts = block_ops Fields ts
+by_token Def t ts = def_ops ts
+by_token _ t ts = bad (t ∷ ts)
 
-chosen : (s : Start) (t : Tok) (ts : List Tok) → pick (begins_use s) (use_ops ts) (pick (begins_kind s) (block_ops Names ts) (pick (begins_rec s) (block_ops Fields ts) (pick (begins_def s) (def_ops ts) (bad (t ∷ ts))))) ≡ by_start s t ts
-chosen Nothing t ts = refl
-chosen AUse t ts = refl
-chosen AKind t ts = refl
-chosen ARecord t ts = refl
-chosen ADef t ts = refl
-chosen NoItem t ts = refl
+chosen : (k : Token) (t : Tok) (ts : List Tok) → pick (is_use k) (use_ops ts) (pick (is_kind k) (block_ops Names ts) (pick (is_rec k) (block_ops Fields ts) (pick (is_def k) (def_ops ts) (bad (t ∷ ts))))) ≡ by_token k t ts
+chosen Use t ts = refl
+chosen Kind t ts = refl
+chosen Rec t ts = refl
+chosen Def t ts = refl
+chosen _ t ts = refl
 
-item_start : (t : Tok) (ts : List Tok) (s : Start) → s ≡ start_of (token_of t.w) → item_ops t ts ≡ by_start s t ts
-item_start t ts s e =
-    let w = t.w in
-    let f = facts w in
-    let u : same w k_use ≡ begins_use s = f.use_is ∙ use_start (token_of w) ∙ ap begins_use (sym e) in
-    let k : same w k_kind ≡ begins_kind s = f.kind_is ∙ kind_start (token_of w) ∙ ap begins_kind (sym e) in
-    let r : same w k_rec ≡ begins_rec s = f.rec_is ∙ rec_start (token_of w) ∙ ap begins_rec (sym e) in
-    let d : same w k_def ≡ begins_def s = f.def_is ∙ def_start (token_of w) ∙ ap begins_def (sym e) in
-    (λ i. pick (u i) (use_ops ts) (pick (k i) (block_ops Names ts) (pick (r i) (block_ops Fields ts) (pick (d i) (def_ops ts) (bad (t ∷ ts)))))) ∙ chosen s t ts
+item_by : (t : Tok) (ts : List Tok) (k : Token) → token_of t.w ≡ k → item_ops t ts ≡ by_token k t ts
+item_by t ts k e =
+    let f = facts t.w in
+    (λ i. pick (f.use_is i) (use_ops ts) (pick (f.kind_is i) (block_ops Names ts) (pick (f.rec_is i) (block_ops Fields ts) (pick (f.def_is i) (def_ops ts) (bad (t ∷ ts)))))) ∙ chosen (token_of t.w) t ts ∙ ap (λ k. by_token k t ts) e
+
+other : (k : Token) → (k ≡ End → ⊥) → (k ≡ Use → ⊥) → (k ≡ Kind → ⊥) → (k ≡ Rec → ⊥) → (k ≡ Def → ⊥) → (is_end k ≡ false) × ((t : Tok) (ts : List Tok) → by_token k t ts ≡ bad (t ∷ ts))
+other End a b c d e = absurd (a refl)
+other Use a b c d e = absurd (b refl)
+other Kind a b c d e = absurd (c refl)
+other Rec a b c d e = absurd (d refl)
+other Def a b c d e = absurd (e refl)
+other _ a b c d e = (refl, λ t ts. refl)
 
 -- what is seen first of a line
 module _ (line : List ℕ) (s : Seen) (h : SeenSays line 0 s) where
-  pub no_item : Nothing ≡ start_of s.token → item_of (left line 0) ≡ nothing
-  no_item e = go (is_end s.token) (end_start s.token ∙ ap no_piece (sym e)) h.place
-    where
-      go : (b : Bool) → b ≡ true → StandsIf b line 0 s.from s.to → item_of (left line 0) ≡ nothing
-      go true p q = ap item_of q.reads
-      go false p q = absurd (false≢true p)
+  pub no_item : s.token ≡ End → item_of (left line 0) ≡ nothing
+  no_item e = let n : NoneAt line 0 s.from s.to = subst (λ t. Stands t line 0 s.from s.to) e h.place in ap item_of n.reads
 
-  pub first_word : (x : Start) → x ≡ start_of s.token → no_piece x ≡ false → NextAt line 0 s.from s.to
-  first_word x e n = go (is_end s.token) (end_start s.token ∙ ap no_piece (sym e) ∙ n) h.place
-    where
-      go : (b : Bool) → b ≡ false → StandsIf b line 0 s.from s.to → NextAt line 0 s.from s.to
-      go true p q = absurd (false≢true (sym p))
-      go false p q = q
-
-  module _ (x : Start) (e : x ≡ start_of s.token) (n : no_piece x ≡ false) where
+  module _ (k : Token) (e : s.token ≡ k) (n : is_end k ≡ false) where
     abbrev t : Tok
     t = piece line s.from s.to
 
     reads : left line 0 ≡ t ∷ left line s.to
-    reads = (first_word x e n).reads
+    reads = let n : NextAt line 0 s.from s.to = subst (λ b. StandsIf b line 0 s.from s.to) (ap is_end e ∙ n) h.place in n.reads
 
-    word_start : x ≡ start_of (token_of t.w)
-    word_start = e ∙ ap start_of (h.token ∙ ap (λ ts. token_of (next ts)) reads)
+    word_is : token_of t.w ≡ k
+    word_is = sym (h.token ∙ ap (λ ts. token_of (next ts)) reads) ∙ e
 
-    pub item_well : (os : List Op) (us : List Tok) → by_start x t (left line s.to) ≡ it os us → Understood (item_of (left line 0)) × (os ≡ item_code (item_of (left line 0)))
-    item_well os us p = subst (λ ts. Understood (item_of ts) × (os ≡ item_code (item_of ts))) (sym reads) (reads_well t (left line s.to) us os (item_start t (left line s.to) x word_start ∙ p))
+    item_well : (os : List Op) (us : List Tok) → by_token k t (left line s.to) ≡ it os us → Understood (item_of (left line 0)) × (os ≡ item_code (item_of (left line 0)))
+    item_well os us p = subst (λ ts. Understood (item_of ts) × (os ≡ item_code (item_of ts))) (sym reads) (reads_well t (left line s.to) us os (item_by t (left line s.to) k word_is ∙ p))
 
-    pub item_badly : (vs : List Tok) → by_start x t (left line s.to) ≡ bad vs → item_of (left line 0) ≡ settled (left line 0) (bad vs)
-    item_badly vs p = subst (λ ts. item_of ts ≡ settled ts (bad vs)) (sym reads) (reads_badly t (left line s.to) vs (item_start t (left line s.to) x word_start ∙ p))
+    item_badly : (vs : List Tok) → by_token k t (left line s.to) ≡ bad vs → item_of (left line 0) ≡ settled (left line 0) (bad vs)
+    item_badly vs p = subst (λ ts. item_of ts ≡ settled ts (bad vs)) (sym reads) (reads_badly t (left line s.to) vs (item_by t (left line s.to) k word_is ∙ p))
 
-    pub item_other : by_start x t (left line s.to) ≡ bad (t ∷ left line s.to) → item_of (left line 0) ≡ settled (left line 0) (bad (left line 0))
-    item_other p = item_badly (t ∷ left line s.to) p ∙ ap (λ ts. settled (left line 0) (bad ts)) (sym reads)
+  pub item_other : (s.token ≡ End → ⊥) → (s.token ≡ Use → ⊥) → (s.token ≡ Kind → ⊥) → (s.token ≡ Rec → ⊥) → (s.token ≡ Def → ⊥) → item_of (left line 0) ≡ settled (left line 0) (bad (left line 0))
+  item_other a b c d e =
+      let o = other s.token a b c d e in
+      let us = t s.token refl o.0 ∷ left line s.to in
+      item_badly s.token refl o.0 us (o.1 (t s.token refl o.0) (left line s.to)) ∙ ap (λ ts. settled (left line 0) (bad ts)) (sym (reads s.token refl o.0))
 
-  pub def_read : ADef ≡ start_of s.token → (base : ℕ) (vs : List ℕ) (r : Result ℕ Wrong) → ItemSays line base vs (def_ops (left line s.to)) r → ItemRead line base vs r
-  def_read e base vs (Ok n) h = let x = item_well ADef e refl h.0 h.1 h.2 in (x.0, h.3 ∙ x.1)
-  def_read e base vs (Err w) h = item_badly ADef e refl (left line w.at) h
+-- the item behind its first word
+pub item_read : (len base : ℕ) (ws : List ℕ) (s : Seen) (h : SeenSays (take len ws) 0 s) (k : Token) (e : s.token ≡ k) (n : is_end k ≡ false) (vs : List ℕ) (a : Result Reading Wrong) → base ≤ length ws →
+    Does (record { len = len; base = base; at = s.to; count = 0 }) ws vs (λ line. by_token k (piece line s.from s.to)) a → ItemRead (take len ws) base vs a
+item_read len base ws s h k e n vs (Ok q) l d =
+    let line = take len ws in
+    let g = d.reads in
+    let x = item_well line s h k e n g.done (left line q.at) g.reads in
+    (x.0, g.stands ∙ ap (λ l. l ++ g.done) (ops_none line base ws l) ∙ x.1)
+item_read len base ws s h k e n vs (Err w) l d = item_badly (take len ws) s h k e n (left (take len ws) w.at) d.reads
 
 -- a line's last piece ends within it
 ends_within : (line : List ℕ) (at : ℕ) (ts : List Tok) → Rising line at ts → end_of ts ≤ length line

@@ -1,5 +1,4 @@
 pub mod Wanted
 pub mod Reads
-pub mod Begins
 pub mod Line
 pub mod View

@@ -4,10 +4,10 @@ use Rattle.lexer.specs.Tokens.{toks, gap, left}
 use Rattle.grammar.specs.Grammar.{Item, item_of, settled, bad, nothing, i_use, i_kind, i_rec, i_def, i_bad}
 use Rattle.grammar.specs.Code.{item_code}
 use Rattle.parser.specs.Rows.{ops_of}
-use Rattle.parser.specs.declared.code.Span.{Span}
 use Rattle.syntax.specs.declared.read.Refusal.{Refusal}
 use Rattle.syntax.specs.declared.read.Refusal.TheVariants.{Wrong as WrongAt, NoRoom}
-use Rattle.syntax.specs.declared.wanted.Wrong.{Wrong}
+use Rattle.parser.specs.declared.parse.Wrong.{Wrong}
+use Rattle.syntax.specs.declared.reading.Reading.{Reading}
 
 -- the item that a line of these bytes is
 abbrev pub item_in : List ℕ → Item
@@ -23,14 +23,9 @@ Understood (i_def t ps r e) = Unit {0}
 Understood (i_bad a b) = ⊥
 
 -- what was read of a line, of which the code stands in vs from base on; or where it went wrong
-abbrev pub ItemRead : List ℕ → ℕ → List ℕ → Result ℕ Wrong → Type 0
-ItemRead line base vs (Ok n) = Understood (item_in line) × (ops_of line base n vs ≡ item_code (item_in line))
+abbrev pub ItemRead : List ℕ → ℕ → List ℕ → Result Reading Wrong → Type 0
+ItemRead line base vs (Ok q) = Understood (item_in line) × (ops_of line base q.count vs ≡ item_code (item_in line))
 ItemRead line base vs (Err w) = item_in line ≡ settled (left line 0) (bad (left line w.at))
-
--- the same with the place
-abbrev pub ItemPlaced : List ℕ → ℕ → List ℕ → Result ℕ Span → Type 0
-ItemPlaced line base vs (Ok n) = Understood (item_in line) × (ops_of line base n vs ≡ item_code (item_in line))
-ItemPlaced line base vs (Err s) = item_in line ≡ i_bad s.from s.to
 
 -- the words that are enough behind base
 abbrev pub room_for : ℕ → ℕ

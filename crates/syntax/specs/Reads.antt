@@ -1,6 +1,6 @@
 -- A line read straight into flat code, and what the functions that do so promise. Only contracts of private functions cite the
 -- readings here; LineSays, the promise of the whole, speaks of `item_of` and `item_code` alone.
-use Rattle.std.specs.Prelude.{◌≡◌, ℕ, suc, ◌+◌, ◌*◌, ◌<◌, ◌≤◌, List, [], ◌∷◌, ◌++◌, length, Ok, Err, Result}
+use Rattle.std.specs.Prelude.{◌≡◌, ℕ, suc, ◌+◌, ◌*◌, ◌<◌, ◌≤◌, List, [], ◌∷◌, ◌++◌, length, take, Ok, Err, Result}
 use Rattle.base.specs.Base.{pick, same}
 use Rattle.lexer.specs.Tokens.{Tok, left, next}
 use Rattle.lexer.specs.Words.{k_use, k_kind, k_rec, k_def, t_rp}
@@ -13,9 +13,9 @@ use Rattle.syntax.specs.declared.wanted.Wanted.{Wanted}
 use Rattle.syntax.specs.declared.wanted.Wanted.TheVariants.{Name as AName, TypeWord as AType, Gets as AGets, Open as AOpen, Close as AClose}
 use Rattle.syntax.specs.declared.lists.Listed.{Listed}
 use Rattle.syntax.specs.declared.lists.Listed.TheVariants.{Names, Fields}
-use Rattle.syntax.specs.declared.wanted.Wrong.{Wrong}
-use Rattle.syntax.specs.declared.lists.Place.{Place}
-use Rattle.syntax.specs.declared.lists.Entry.{Entry}
+use Rattle.parser.specs.declared.code.Op.{Op}
+use Rattle.parser.specs.declared.parse.Wrong.{Wrong}
+use Rattle.syntax.specs.declared.reading.Reading.{Reading}
 
 abbrev pub word : Wanted → List Tok → Got Tok
 word k ts = a_word (wants k) ts
@@ -77,31 +77,71 @@ abbrev pub coded : Got Item → Got (List Flat)
 coded (it i us) = it (item_code i) us
 coded (bad us) = bad us
 
--- one piece was taken from a place on
-abbrev pub TakesSays : List ℕ → ℕ → Got Tok → Result Span Wrong → Type 0
-TakesSays line at g (Ok s) = (g ≡ it (span_of line s) (left line s.to)) × (at < s.to) × (s.to ≤ length line)
-TakesSays line at g (Err w) = (g ≡ bad (left line w.at))
+-- the line that a reading is of
+abbrev pub line_of : Reading → List ℕ → List ℕ
+line_of r ws = take r.len ws
 
-abbrev pub EntrySays : List ℕ → ℕ → Got Flat → Result Entry Wrong → Type 0
-EntrySays line at g (Ok e) = (g ≡ it (op_is line e.op) (left line e.to)) × (at < e.to) × (e.to ≤ length line)
-EntrySays line at g (Err w) = (g ≡ bad (left line w.at))
+-- where the line ends and the code begins stays as it is
+pub record Beside (r q : Reading) : Type 0 where
+  pub len_is : q.len ≡ r.len
+  pub base_is : q.base ≡ r.base
 
--- nothing is left from a place on
-abbrev pub EndSays : List ℕ → ℕ → Result (Unit {0}) Wrong → Type 0
-EndSays line at (Ok u) = (os : List Flat) → ends os (left line at) ≡ it os (left line at)
-EndSays line at (Err w) = (w.at ≡ at) × ((os : List Flat) → ends os (left line at) ≡ bad (left line at))
+-- there is a word for each operation that the line may become, and more of them; the line is shorter than most
+pub record Ready (most more : ℕ) (r : Reading) (ws : List ℕ) : Type 0 where
+  pub small : r.len < most
+  pub line_in : r.len ≤ r.base
+  pub room : r.base + 5 * r.len + more ≤ length ws
+  pub few : r.count < r.at
+  pub within : r.at ≤ r.len
 
--- n operations stood from base on in the words ws; now more stand in vs, and these are what g reads
-abbrev pub ReadsSays : List ℕ → ℕ → ℕ → List ℕ → List ℕ → Got (List Flat) → Result Place Wrong → Type 0
-ReadsSays line base n ws vs g (Ok p) = (os : List Flat) × (g ≡ it os (left line p.at)) × (ops_of line base p.count vs ≡ ops_of line base n ws ++ os) × (p.count < p.at) × (p.at ≤ length line)
-ReadsSays line base n ws vs g (Err w) = (g ≡ bad (left line w.at))
+-- there is room for one operation more
+pub record Spare (r : Reading) (ws : List ℕ) : Type 0 where
+  pub line_in : r.len ≤ r.base
+  pub spare : r.base + 5 * r.count + 5 ≤ length ws
+  pub within : r.at ≤ r.len
 
--- the same, where fewer operations stand than the line has bytes
-abbrev pub BodySays : List ℕ → ℕ → ℕ → List ℕ → List ℕ → Got (List Flat) → Result Place Wrong → Type 0
-BodySays line base n ws vs g (Ok p) = (os : List Flat) × (g ≡ it os (left line p.at)) × (ops_of line base p.count vs ≡ ops_of line base n ws ++ os) × (p.count < length line) × (p.at ≤ length line)
-BodySays line base n ws vs g (Err w) = (g ≡ bad (left line w.at))
+-- x was taken from a place on, and the words stay
+pub record Took {A : Type 0} (r : Reading) (ws : List ℕ) (F : List Tok → Got A) (x : A) (q : Reading) : Type 0 where
+  pub reads : F (left (line_of r ws) r.at) ≡ it x (left (line_of r ws) q.at)
+  pub beside : Beside r q
+  pub count_is : q.count ≡ r.count
+  pub onward : r.at < q.at
+  pub within : q.at ≤ r.len
 
--- a whole item: so many operations, and they are all that was read
-abbrev pub ItemSays : List ℕ → ℕ → List ℕ → Got (List Flat) → Result ℕ Wrong → Type 0
-ItemSays line base vs g (Ok n) = (os : List Flat) × (us : List Tok) × (g ≡ it os us) × (ops_of line base n vs ≡ os)
-ItemSays line base vs g (Err w) = (g ≡ bad (left line w.at))
+-- or it isn't there
+abbrev pub Lost : {A : Type 0} → Reading → List ℕ → (List Tok → Got A) → Wrong → Type 0
+Lost r ws F w = F (left (line_of r ws) r.at) ≡ bad (left (line_of r ws) w.at)
+
+abbrev pub TakesSays : Reading → List ℕ → (List Tok → Got Tok) → Result (Span × Reading) Wrong → Type 0
+TakesSays r ws F (Ok p) = Took r ws F (span_of (line_of r ws) p.0) p.1
+TakesSays r ws F (Err w) = Lost r ws F w
+
+abbrev pub EntrySays : Reading → List ℕ → (List Tok → Got Flat) → Result (Op × Reading) Wrong → Type 0
+EntrySays r ws F (Ok p) = Took r ws F (op_is (line_of r ws) p.0) p.1
+EntrySays r ws F (Err w) = Lost r ws F w
+
+-- an operation, by the line, came to stand behind those that were there
+pub record Emits (r : Reading) (ws vs : List ℕ) (o : List ℕ → Flat) (q : Reading) : Type 0 where
+  pub within : r.at ≤ r.len
+  pub front : take r.base vs ≡ take r.base ws
+  pub beside : Beside r q
+  pub at_is : q.at ≡ r.at
+  pub count_is : q.count ≡ r.count + 1
+  pub adds : ops_of (line_of r ws) r.base (r.count + 1) vs ≡ ops_of (line_of r ws) r.base r.count ws ++ (o (line_of r ws) ∷ [])
+
+-- operations stood in the words ws; now more stand in vs, and these are what g reads
+pub record Grew (line : List ℕ) (r : Reading) (ws vs : List ℕ) (g : Got (List Flat)) (q : Reading) : Type 0 where
+  pub done : List Flat
+  pub reads : g ≡ it done (left line q.at)
+  pub stands : ops_of line r.base q.count vs ≡ ops_of line r.base r.count ws ++ done
+  pub beside : Beside r q
+  pub within : q.at ≤ r.len
+
+abbrev pub Says : List ℕ → Reading → List ℕ → List ℕ → Got (List Flat) → Result Reading Wrong → Type 0
+Says line r ws vs g (Ok q) = Grew line r ws vs g q
+Says line r ws vs g (Err w) = g ≡ bad (left line w.at)
+
+-- from a place on, what F reads by the line was read, and what stands before the code stays
+pub record Does (r : Reading) (ws vs : List ℕ) (F : List ℕ → List Tok → Got (List Flat)) (a : Result Reading Wrong) : Type 0 where
+  pub front : take r.base vs ≡ take r.base ws
+  pub reads : Says (line_of r ws) r ws vs (F (line_of r ws) (left (line_of r ws) r.at)) a

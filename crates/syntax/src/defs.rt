@@ -1,52 +1,38 @@
 // A def, behind its word: its expression by the parser with a stack of its own.
-ghost use Rattle.std.specs.Prelude.{◌≡◌, ◌+◌, ◌*◌, ◌<◌, ◌≤◌, length, take};
-ghost use Rattle.lexer.specs.Tokens.{left};
-ghost use Rattle.syntax.specs.Reads.{body_ops, def_ops, BodySays, ItemSays};
+ghost use Rattle.std.specs.Prelude.{◌+◌, ◌*◌, ◌<◌, IfOk};
+ghost use Rattle.syntax.specs.Reads.{body_ops, def_ops, Ready, Does};
 
-use crate::lists::{Listed, Place};
-use crate::parts::{expect_end, read_params, read_result, read_start};
-use crate::wanted::{Wanted, Wrong};
-use parser::code::{Op, emit};
-use parser::parse::{Read, parse};
+use crate::lists::Listed;
+use crate::reading::Reading;
+use crate::wanted::Wanted;
+use parser::code::Op;
+use parser::parse::{Wrong, parse};
 
-// An expression from a place on.
-fn read_body(
-    words: &mut [u32],
-    len: usize,
-    base: usize,
-    n: usize,
-    from: usize,
-) -> Result<Place, Wrong>
-    requires small { len < 4294967000 }
-    requires line { len ≤ base }
-    requires room { base + 14 * len + 64 ≤ length words.old }
-    requires behind { (n < from) × (from ≤ len) }
-    ensures front { take base words.new ≡ take base words.old }
-    ensures reads { BodySays (take len words.old) base n words.old words.new (body_ops (left (take len words.old) from)) result }
-{
-    match parse(words, len, from, base + 5 * n) {
-        Read::It { at, count } => Ok(Place {
-            at,
-            count: n + count,
-        }),
-        Read::Bad(at) => Err(Wrong { at }),
+impl Reading {
+    // An expression.
+    fn body(self, words: &mut [u32]) -> Result<Reading, Wrong>
+        requires { Ready 4294967000 (9 * self.len + 64) self words.old }
+        ensures reads { Does self words.old words.new (λ _. body_ops) result }
+        ensures few { IfOk result (λ q. q.count < self.len) }
+    {
+        let code = self.base + 5 * self.count;
+        let read = parse(words, self.len, self.at, code)?;
+        Ok(Reading {
+            at: read.at,
+            count: self.count + read.count,
+            ..self
+        })
     }
-}
 
-// The whole def.
-pub fn read_def(words: &mut [u32], len: usize, base: usize, from: usize) -> Result<usize, Wrong>
-    requires small { len < 4294967000 }
-    requires line { len ≤ base }
-    requires room { base + 14 * len + 64 ≤ length words.old }
-    requires behind { (0 < from) × (from ≤ len) }
-    ensures front { take base words.new ≡ take base words.old }
-    ensures reads { ItemSays (take len words.old) base words.new (def_ops (left (take len words.old) from)) result }
-{
-    let start = read_start(words, len, base, from, Listed::Fields, Wanted::Open)?;
-    let params = read_params(words, len, base, start.count, start.at)?;
-    let result = read_result(words, len, base, params.count, params.at)?;
-    let body = read_body(words, len, base, result.count, result.at)?;
-    expect_end(words, len, body.at)?;
-    emit(words, base, body.count, Op::Body);
-    Ok(body.count + 1)
+    // The whole def.
+    pub fn def(self, words: &mut [u32]) -> Result<Reading, Wrong>
+        requires { Ready 4294967000 (9 * self.len + 64) self words.old }
+        ensures { Does self words.old words.new (λ _. def_ops) result }
+    {
+        let start = self.start(words, Listed::Fields, Wanted::Open)?;
+        let params = start.params(words)?;
+        let outcome = params.def_result(words)?;
+        let body = outcome.body(words)?;
+        body.last(words, Op::Body)
+    }
 }

@@ -7,6 +7,6 @@ mod items;
 mod lists;
 mod parts;
 pub mod read;
-mod start;
+mod reading;
 pub mod view;
 mod wanted;

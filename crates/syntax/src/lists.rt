@@ -1,81 +1,62 @@
 // Lists of a line: the constants of a kind, the fields of a record, the parameters of a def.
-ghost use Rattle.std.specs.Prelude.{◌≡◌, ◌+◌, ◌*◌, ◌<◌, ◌≤◌, length, take};
-ghost use Rattle.lexer.specs.Tokens.{left};
-ghost use Rattle.syntax.specs.Reads.{entry, listed as reads, EntrySays, ReadsSays};
+ghost use Rattle.std.specs.Prelude.{◌≡◌, ℕ, ◌+◌, ◌*◌, ◌<◌, ◌≤◌, List, length, IfOk};
+ghost use Rattle.parser.specs.Rows.{op_is, span_of};
+ghost use Rattle.syntax.specs.Reads.{entry, head, listed as reads, Ready, EntrySays, Does};
 
-use crate::wanted::{Wanted, Wrong, expect, seen};
-use parser::code::{Op, emit};
+use crate::reading::Reading;
+use crate::wanted::Wanted;
+use parser::code::{Op, Span};
+use parser::parse::Wrong;
 
 // What a list holds: names, or names with types.
-#[derive(Clone, Copy)]
+#[derive(Clone, Copy, PartialEq, Eq, Debug)]
 pub enum Listed {
     Names,
     Fields,
 }
 
-// How far reading has come: the place in the line, and how many operations there are.
-#[derive(Clone, Copy)]
-pub struct Place {
-    pub at: usize,
-    pub count: usize,
-}
-
-// One thing of a list, and where it ends.
-#[derive(Clone, Copy)]
-pub struct Entry {
-    pub op: Op,
-    pub to: usize,
-}
-
-fn read_entry(words: &[u32], len: usize, at: usize, listed: Listed) -> Result<Entry, Wrong>
-    requires { (len ≤ length words.now) × (len < 4294967296) }
-    ensures { EntrySays (take len words.now) «at» (entry listed (left (take len words.now) «at»)) result }
-{
-    let name = expect(words, len, at, Wanted::Name)?;
-    match listed {
-        Listed::Names => Ok(Entry {
-            op: Op::Const(name),
-            to: name.to as usize,
-        }),
-        Listed::Fields => {
-            let ty = expect(words, len, name.to as usize, Wanted::TypeWord)?;
-            Ok(Entry {
-                op: Op::Slot(name, ty),
-                to: ty.to as usize,
-            })
+impl Listed {
+    // How the name is said of the kind, or of the record or def, whose list this is.
+    pub fn head(self, name: Span) -> Op
+        ensures { (line : List ℕ) → op_is line result ≡ head self (span_of line name) }
+    {
+        match self {
+            Listed::Names => Op::Const(name),
+            Listed::Fields => Op::New(name),
         }
     }
 }
 
-// A list from a place on, as operations behind the n that stand from base on.
-pub fn read_list(
-    words: &mut [u32],
-    len: usize,
-    base: usize,
-    n: usize,
-    from: usize,
-    listed: Listed,
-) -> Result<Place, Wrong>
-    requires small { len < 4294967296 }
-    requires line { len ≤ base }
-    requires room { base + 5 * len ≤ length words.old }
-    requires behind { (n < from) × (from ≤ len) }
-    ensures front { take base words.new ≡ take base words.old }
-    ensures reads { ReadsSays (take len words.old) base n words.old words.new (reads listed (left (take len words.old) from)) result }
-{
-    let mut at = from;
-    let mut count = n;
-    loop {
-        let entry = read_entry(words, len, at, listed)?;
-        emit(words, base, count, entry.op);
-        count += 1;
-        let next = seen(words, len, entry.to);
-        if !Wanted::Comma.is(next.token) {
-            return Ok(Place {
-                at: entry.to,
-                count,
-            });
+impl Reading {
+    // One thing of a list, and reading behind it.
+    fn entry(self, words: &[u32], listed: Listed) -> Result<(Op, Reading), Wrong>
+        requires { (self.len ≤ length words.now) × (self.len < 4294967296) }
+        ensures { EntrySays self words.now (entry listed) result }
+    {
+        let (name, behind) = self.expect(words, Wanted::Name)?;
+        match listed {
+            Listed::Names => Ok((Op::Const(name), behind)),
+            Listed::Fields => {
+                let (ty, behind) = behind.expect(words, Wanted::TypeWord)?;
+                Ok((Op::Slot(name, ty), behind))
+            }
         }
-        at = next.to;
+    }
+
+    // A list.
+    pub fn list(self, words: &mut [u32], listed: Listed) -> Result<Reading, Wrong>
+        requires { Ready 4294967296 0 self words.old }
+        ensures reads { Does self words.old words.new (λ _. reads listed) result }
+        ensures few { IfOk result (λ q. q.count < q.«at») }
+    {
+        let mut here = self;
+        loop {
+            let (op, behind) = here.entry(words, listed)?;
+            let read = behind.emit(words, op);
+            match read.expect(words, Wanted::Comma) {
+                Ok((_, on)) => here = on,
+                Err(_) => return Ok(read),
+            }
+        }
     }
 }

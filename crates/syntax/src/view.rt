@@ -76,7 +76,7 @@ impl<'a> Ops<'a> {
         op_at(self.code, 0, i)
     }
 
-    // The operation with a number, if there is one.
+    // The operation with a number, if there is one. An if, as behind then it isn't known whose operation the closure gives.
     pub fn get(&self, i: usize) -> Option<Op>
         ensures { GetSays self.now.line.now self.now.code.now i result }
     {
@@ -95,7 +95,7 @@ impl<'a> Ops<'a> {
     {
         Ops {
             line: self.line,
-            code: &self.code[0..5 * n],
+            code: &self.code[..5 * n],
         }
     }
 
@@ -116,20 +116,14 @@ impl<'a> Ops<'a> {
         ensures within { T result → 5 * i + 5 ≤ length self.now.code.now }
         ensures slot { result ≡ slot_in (slice_get (ops self.now.line.now self.now.code.now) i) }
     {
-        match self.get(i) {
-            Some(op) => is_slot(op),
-            None => false,
-        }
+        self.get(i).is_some_and(is_slot)
     }
 
     // The type of the result that one names.
     fn result_at(&self, i: usize) -> Option<Span>
         ensures { ResultSays self.now.line.now self.now.code.now i result }
     {
-        let Some(op) = self.get(i) else {
-            return None;
-        };
-        match op {
+        match self.get(i)? {
             Op::Result(s) => Some(s),
             _ => None,
         }
@@ -140,11 +134,7 @@ impl<'a> Ops<'a> {
         ensures within { 5 * result ≤ length self.now.code.now }
         ensures leads { lead (ops self.now.line.now self.now.code.now) ≡ result }
     {
-        let mut n = 0;
-        while self.slot_at(n) {
-            n += 1;
-        }
-        n
+        (0..self.len()).take_while(|i| self.slot_at(*i)).count()
     }
 
     // The record or def with a name that these stand behind.
@@ -188,7 +178,7 @@ pub fn item_of<'a>(words: &'a [u32], len: usize, base: usize, count: usize) -> I
         return Item::Nothing;
     }
     let ops = Ops {
-        line: &words[0..len],
+        line: &words[..len],
         code: &words[base..base + 5 * count],
     };
     ops.item()

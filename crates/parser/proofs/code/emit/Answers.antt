@@ -6,5 +6,5 @@ use Rattle.parser.proofs.code.emit.Goals as goal
 pub returns : goal.returns
 returns c =
     let l : length c.copy_from_slice.new.self ≡ 5 = search rules in
-    let e = emits c.args.words.now c.copy_from_slice.new.self c.pack.result c.args.base c.args.n (λ line. op_is line c.args.op) c.copy_from_slice.ensures.after l c.pack.ensures c.requires in
+    let e = emits c.args.words.now c.copy_from_slice.new.self c.from.result c.args.base c.args.n (λ line. op_is line c.args.op) c.copy_from_slice.ensures.after l c.from.ensures c.requires in
     record { adds = e.adds; below = e.below; above = e.above }
