@@ -1,6 +1,7 @@
 pub mod Words
 pub mod States
-pub mod Slots
+pub mod Ahead
 pub mod Asks
 pub mod Loop
 pub mod Whole
+pub mod Events

@@ -3,7 +3,7 @@ use Rattle.std.specs.Prelude.{false, []}
 use Rattle.std.proofs.Math.Option.{none}
 use Rattle.semantics.specs.Names.{s_unknown}
 use Rattle.semantics.specs.Walk.{Query, q_here, q_there, q_file, q_before, k_sig, k_yes, Fetch, lacks, has}
-use Rattle.checker.specs.declared.lookup.Sort.TheVariants.{Kind}
+use Rattle.semantics.specs.declared.sort.Sort.TheVariants.{Kind}
 use Rattle.checker.specs.Rows.{Book, Origin, Declared}
 
 abbrev pub nowhere : Origin

@@ -7,8 +7,8 @@ use Rattle.grammar.specs.Code.{Op}
 use Rattle.semantics.specs.Names.{t_of, Slot, Sig, s_unknown, s_several, s_type, s_const, s_rec, s_def}
 use Rattle.semantics.specs.Check.{Said, said, fault, wrong, link_to, name_alone, Callee, calls_it, callee}
 use Rattle.semantics.specs.Walk.{step, Known, lacks, has, fetch, asks}
-use Rattle.checker.specs.declared.lookup.Sort.{Sort}
-use Rattle.checker.specs.declared.lookup.Sort.TheVariants.{Kind, Const, Rec, Def}
+use Rattle.semantics.specs.declared.sort.Sort.{Sort}
+use Rattle.semantics.specs.declared.sort.Sort.TheVariants.{Kind, Constant, Record, Def}
 use Rattle.checker.specs.declared.lookup.Want.{Want}
 use Rattle.checker.specs.declared.rows.Bounds.{Bounds}
 use Rattle.checker.specs.declared.rows.Place.{Place}
@@ -47,16 +47,16 @@ TurnSays g b p ws vs o r = TurnBy (g (take b.base ws)) (take b.len ws) b p ws vs
 -- what may stand alone, be called, be a type
 abbrev pub role_fits : Role → Sort → Bool
 role_fits Alone Kind = false
-role_fits Alone Const = true
-role_fits Alone Rec = false
+role_fits Alone Constant = true
+role_fits Alone Record = false
 role_fits Alone Def = false
 role_fits Called Kind = false
-role_fits Called Const = false
-role_fits Called Rec = true
+role_fits Called Constant = false
+role_fits Called Record = true
 role_fits Called Def = true
 role_fits Typed Kind = true
-role_fits Typed Const = false
-role_fits Typed Rec = true
+role_fits Typed Constant = false
+role_fits Typed Record = true
 role_fits Typed Def = false
 
 abbrev pub type_said : Tok → Sig → Said

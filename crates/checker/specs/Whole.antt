@@ -12,23 +12,21 @@ use Rattle.checker.specs.declared.lookup.Want.{Want}
 use Rattle.checker.specs.declared.rows.Bounds.{Bounds}
 use Rattle.checker.specs.declared.rows.Place.{Place}
 use Rattle.checker.specs.declared.check.Stop.{Stop}
-use Rattle.checker.specs.declared.check.Stop.TheVariants.{Needs as NeedsOf, NoRoom}
-use Rattle.checker.specs.declared.check.Went.{Went}
-use Rattle.checker.specs.declared.check.Went.TheVariants.{Ends, Needs}
+use Rattle.checker.specs.declared.check.Stop.TheVariants.{Needs, NoRoom}
 use Rattle.checker.specs.Rows.{Book, means, said_in, code_end, query_is}
 
 -- as the walk with what the lookup knows: it ends in the state that the words are in, or needs what that needs
-abbrev pub WentBy : Book → List ℕ → Bounds → List ℕ → List ℕ → Went → Type 0
-WentBy k line b ws vs (Ends p) = (tries k.knows (ops_of line b.base b.count ws) start ≡ ends (means k line b p vs)) × (p.events ≤ 3 * b.count)
-WentBy k line b ws vs (Needs w) = tries k.knows (ops_of line b.base b.count ws) start ≡ need (query_is k line w)
+abbrev pub WalkBy : Book → List ℕ → Bounds → List ℕ → List ℕ → Result Place Want → Type 0
+WalkBy k line b ws vs (Ok p) = (tries k.knows (ops_of line b.base b.count ws) start ≡ ends (means k line b p vs)) × (p.events ≤ 3 * b.count)
+WalkBy k line b ws vs (Err w) = tries k.knows (ops_of line b.base b.count ws) start ≡ need (query_is k line w)
 
-abbrev pub WentSays : (List ℕ → Book) → Bounds → List ℕ → List ℕ → Went → Type 0
-WentSays g b ws vs r = WentBy (g (take b.base ws)) (take b.len ws) b ws vs r
+abbrev pub WalkSays : (List ℕ → Book) → Bounds → List ℕ → List ℕ → Result Place Want → Type 0
+WalkSays g b ws vs r = WalkBy (g (take b.base ws)) (take b.len ws) b ws vs r
 
 -- what is given back: how many things were said, or what has to be known
-abbrev pub told_of : Went → Result ℕ Want
-told_of (Ends p) = Ok p.events
-told_of (Needs w) = Err w
+abbrev pub told_of : Result Place Want → Result ℕ Want
+told_of (Ok p) = Ok p.events
+told_of (Err w) = Err w
 
 abbrev pub Few : Bounds → Result ℕ Want → Type 0
 Few b (Ok n) = n ≤ 3 * b.count
@@ -55,7 +53,7 @@ RoomSays n b false = (b.base < b.len) ⊎ (n < enough b)
 -- words for each operation were lent from base on
 abbrev pub CheckSays : (List ℕ → Book) → Bounds → List ℕ → List ℕ → Result ℕ Stop → Type 0
 CheckSays g b ws vs (Ok n) = (n ≤ 3 * b.count) × LineSays g b ws vs (Ok n)
-CheckSays g b ws vs (Err (NeedsOf w)) = LineSays g b ws vs (Err w)
+CheckSays g b ws vs (Err (Needs w)) = LineSays g b ws vs (Err w)
 CheckSays g b ws vs (Err NoRoom) = (b.base < b.len) ⊎ (length ws < enough b)
 
 -- the state after i operations

@@ -1,25 +1,14 @@
 // The whole: a line's code, operation by operation.
-ghost use Rattle.std.specs.Prelude.{◌≡◌, ◌+◌, ◌*◌, ◌<◌, ◌≤◌, length, take};
+ghost use Rattle.std.specs.Prelude.{◌≡◌, ℕ, ◌+◌, ◌*◌, ◌<◌, ◌≤◌, length, take};
 ghost use Rattle.parser.specs.Rows.{op_is};
 ghost use Rattle.checker.specs.Rows.{code_end};
 ghost use Rattle.checker.specs.Turns.{Ready, TurnSays};
-ghost use Rattle.checker.specs.Whole.{WentSays, told_of, LineSays, RoomSays, CheckSays};
+ghost use Rattle.checker.specs.Whole.{WalkSays, told_of, LineSays, RoomSays, CheckSays};
+ghost use Rattle.checker.specs.declared.check.Stop.TheVariants.{Needs};
 
-use crate::calls::{call, field, name};
-use crate::lines::{constant, new_name, result, slot, use_file};
 use crate::lookup::{Lookup, Want};
 use crate::rows::{Bounds, Place};
-use crate::turns::{
-    argument, body, bound, brackets, choice, condition, end, end_let, misread, number, operation,
-};
 use parser::code::{Op, op_at};
-
-// How far it went: to the end, and so much was said; or up to what has to be known first.
-#[derive(Clone, Copy)]
-enum Went {
-    Ends(Place),
-    Needs(Want),
-}
 
 // Why it stopped: something has to be known first; or too few words were lent.
 #[derive(Clone, Copy)]
@@ -28,65 +17,77 @@ pub enum Stop {
     NoRoom,
 }
 
-fn turn<L: Lookup>(look: &L, words: &mut [u32], b: Bounds, p: Place, op: Op) -> Result<Place, Want>
-    requires { Ready b p words.old }
-    ensures { TurnSays (L.Lookup.book look.now) b p words.old words.new (λ line. op_is line op) result }
-{
-    match op {
-        Op::Number(s) => Ok(number(words, b, p, s)),
-        Op::Name(s) => name(look, words, b, p, s),
-        Op::Call(s, n) => call(look, words, b, p, s, n),
-        Op::Arg => Ok(argument(look, words, b, p)),
-        Op::End(to) => Ok(end(words, b, p, to)),
-        Op::Field(x) => field(look, words, b, p, x),
-        Op::Sign(o) => Ok(operation(look, words, b, p, o)),
-        Op::Cond => Ok(condition(look, words, b, p)),
-        Op::If(from) => Ok(choice(look, words, b, p, from)),
-        Op::Bind(s) => Ok(bound(words, b, p, s)),
-        Op::Let(from) => Ok(end_let(words, b, p, from)),
-        Op::Par(s) => Ok(brackets(words, b, p, s)),
-        Op::Use(s) => use_file(look, words, b, p, s),
-        Op::New(s) => new_name(look, words, b, p, s),
-        Op::Const(s) => constant(look, words, b, p, s),
-        Op::Slot(x, ty) => slot(look, words, b, p, x, ty),
-        Op::Result(s) => result(look, words, b, p, s),
-        Op::Body => Ok(body(look, words, b, p)),
-        Op::Bad(s) => Ok(misread(words, b, p, s)),
+impl From<Want> for Stop {
+    ghost from_gives = { λ w s. s ≡ Needs w };
+
+    fn from(want: Want) -> Stop {
+        Stop::Needs(want)
     }
 }
 
-// The walk over all operations.
-fn walk<L: Lookup>(look: &L, words: &mut [u32], b: Bounds) -> Went
-    requires line { b.len ≤ b.base }
-    requires room { b.base + 25 * b.count ≤ length words.old }
-    ensures kept { take (code_end b) words.new ≡ take (code_end b) words.old }
-    ensures walks { WentSays (L.Lookup.book look.now) b words.old words.new result }
-    ensures says { LineSays (L.Lookup.book look.now) b words.old words.new (told_of result) }
-{
-    let mut p = Place {
-        height: 0,
-        names: 0,
-        events: 0,
-    };
-    for i in 0..b.count {
-        match turn(look, words, b, p, op_at(words, b.base, i)) {
-            Ok(q) => {
-                p = q;
-                continue;
-            }
-            Err(want) => {
-                return Went::Needs(want);
-            }
+// What checks a line: what names are looked up in, and the line's bounds.
+#[derive_where(Clone, Copy)]
+pub(crate) struct Checker<'a, L> {
+    pub(crate) look: &'a L,
+    pub(crate) b: Bounds,
+}
+
+impl<L: Lookup> Checker<'_, L> {
+    fn turn(&self, words: &mut [u32], p: Place, op: Op) -> Result<Place, Want>
+        requires { Ready self.now.b p words.old }
+        ensures { TurnSays (L.Lookup.book self.now.look.now) self.now.b p words.old words.new (λ line. op_is line op) result }
+    {
+        match op {
+            Op::Number(s) => Ok(self.number(words, p, s)),
+            Op::Name(s) => self.name(words, p, s),
+            Op::Call(s, n) => self.call(words, p, s, n),
+            Op::Arg => Ok(self.argument(words, p)),
+            Op::End(to) => Ok(self.end(words, p, to)),
+            Op::Field(x) => self.field(words, p, x),
+            Op::Sign(o) => Ok(self.operation(words, p, o)),
+            Op::Cond => Ok(self.condition(words, p)),
+            Op::If(from) => Ok(self.choice(words, p, from)),
+            Op::Bind(s) => Ok(self.bound(words, p, s)),
+            Op::Let(from) => Ok(self.end_let(words, p, from)),
+            Op::Par(s) => Ok(self.brackets(words, p, s)),
+            Op::Use(s) => self.use_file(words, p, s),
+            Op::New(s) => self.new_name(words, p, s),
+            Op::Const(s) => self.constant(words, p, s),
+            Op::Slot(x, ty) => self.slot(words, p, x, ty),
+            Op::Result(s) => self.result(words, p, s),
+            Op::Body => Ok(self.body(words, p)),
+            Op::Bad(s) => Ok(self.misread(words, p, s)),
         }
     }
-    Went::Ends(p)
+
+    // The walk over all operations. They are read one by one, since the row in which they are is written.
+    fn walk(&self, words: &mut [u32]) -> Result<Place, Want>
+        requires line { self.now.b.len ≤ self.now.b.base }
+        requires room { self.now.b.base + 25 * self.now.b.count ≤ length words.old }
+        ensures kept { take (code_end self.now.b) words.new ≡ take (code_end self.now.b) words.old }
+        ensures walks { WalkSays (L.Lookup.book self.now.look.now) self.now.b words.old words.new result }
+        ensures says { LineSays (L.Lookup.book self.now.look.now) self.now.b words.old words.new (told_of result) }
+    {
+        let mut p = Place {
+            height: 0,
+            names: 0,
+            events: 0,
+        };
+        for i in 0..self.b.count {
+            let op = op_at(words, self.b.base, i);
+            p = self.turn(words, p, op)?;
+        }
+        Ok(p)
+    }
 }
 
-// Whether there are words enough: 25 for each operation, the code's five among them, behind a base that isn't inside the line.
-fn has_room(words: usize, b: Bounds) -> bool
-    ensures { RoomSays words b result }
-{
-    b.len <= b.base && b.base <= words && b.count <= (words - b.base) / 25
+impl Bounds {
+    // Whether there are words enough: 25 for each operation, the code's five among them, behind a base that isn't inside the line.
+    fn has_room(self, words: usize) -> bool
+        ensures { RoomSays words self result }
+    {
+        self.len <= self.base && self.base <= words && self.count <= (words - self.base) / 25
+    }
 }
 
 // Checks a line that lies in the words with its code. What is said comes to stand behind the code, so many things as are given back;
@@ -95,11 +96,9 @@ pub fn check<L: Lookup>(look: &L, words: &mut [u32], b: Bounds) -> Result<usize,
     ensures kept { take (code_end b) words.new ≡ take (code_end b) words.old }
     ensures says { CheckSays (L.Lookup.book look.now) b words.old words.new result }
 {
-    if !has_room(words.len(), b) {
+    if !b.has_room(words.len()) {
         return Err(Stop::NoRoom);
     }
-    match walk(look, words, b) {
-        Went::Ends(p) => Ok(p.events),
-        Went::Needs(want) => Err(Stop::Needs(want)),
-    }
+    let p = Checker { look, b }.walk(words)?;
+    Ok(p.events)
 }

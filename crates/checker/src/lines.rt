@@ -1,194 +1,118 @@
 // What a line declares or uses: files, names that are new, fields and parameters, and a def's result.
 ghost use Rattle.std.specs.Prelude.{◌≡◌, ℕ, ◌-◌, ◌<◌, [], ◌∷◌, take};
-ghost use Rattle.base.specs.Base.{pick, is_some};
+ghost use Rattle.base.specs.Base.{pick};
 ghost use Rattle.lexer.specs.Tokens.{Tok};
 ghost use Rattle.grammar.specs.Code.{o_use, o_new, o_const, o_slot, o_result};
 ghost use Rattle.parser.specs.Rows.{span_of};
-ghost use Rattle.semantics.specs.Check.{fault as fault_of, find as found_in};
-ghost use Rattle.checker.specs.Rows.{Book, means, blamed, verdict_said, Fits, Within};
+ghost use Rattle.semantics.specs.Check.{fault as fault_of};
+ghost use Rattle.checker.specs.Rows.{Book, blamed, verdict_said, Within};
 ghost use Rattle.checker.specs.Turns.{Ready, TurnSays};
-ghost use Rattle.checker.specs.Asks.{file_said, TypeTurn};
+ghost use Rattle.checker.specs.Asks.{BeforeSays, file_said, TypeTurn};
 
-use crate::lookup::{BOOL, Lookup, NONE, NUM, Want};
-use crate::rows::{Bound, Bounds, Frame, Place, bind, find, push, word_of};
-use crate::said::{Link, Verdict, blame, tell};
-use crate::verdict::{Role, judge};
-use base::same_word;
+use crate::check::Checker;
+use crate::lookup::{Lookup, Want};
+use crate::packed::TypeWord;
+use crate::rows::{Bound, Frame, Place};
+use crate::said::Link;
+use crate::verdict::{Role, Verdict};
+use base::spells;
 use parser::code::Span;
-
-// The numbers of faults: declared before; no such file.
-const DECLARED_BEFORE: u32 = 4;
-
-const NO_FILE: u32 = 9;
+use semantics::fault::Fault;
 
 // What is found of a file's name.
 fn file_verdict(is_there: bool) -> Verdict
     ensures { (k : Book) (t : Tok) → verdict_said k t result ≡ file_said t is_there }
 {
     if is_there {
-        Verdict {
-            ty: NONE,
-            fault: 0,
-            link: Link::File,
-        }
+        Verdict::typed(TypeWord::NONE).linked(Link::File)
     } else {
-        Verdict {
-            ty: NONE,
-            fault: NO_FILE,
-            link: Link::No,
-        }
+        Verdict::wrong(Fault::NoFile)
     }
-}
-
-pub fn use_file<L: Lookup>(
-    look: &L,
-    words: &mut [u32],
-    b: Bounds,
-    p: Place,
-    s: Span,
-) -> Result<Place, Want>
-    requires { Ready b p words.old }
-    ensures { TurnSays (L.Lookup.book look.now) b p words.old words.new (λ line. o_use (span_of line s)) result }
-{
-    let Some(is_there) = look.file(words, b, s) else {
-        return Err(Want::File(s));
-    };
-    let v = file_verdict(is_there);
-    Ok(tell(words, b, p, s, v))
 }
 
 // What is wrong with a name that may be there already.
-fn again(is_there: bool) -> u32
+fn again(is_there: bool) -> Option<Fault>
     ensures { (m n : ℕ) → blamed result m n ≡ pick is_there (fault_of m n 4 ∷ []) [] }
 {
-    if is_there { DECLARED_BEFORE } else { 0 }
+    is_there.then_some(Fault::DeclaredBefore)
 }
 
-// A record or def is named.
-pub fn new_name<L: Lookup>(
-    look: &L,
-    words: &mut [u32],
-    b: Bounds,
-    p: Place,
-    s: Span,
-) -> Result<Place, Want>
-    requires { Ready b p words.old }
-    ensures { TurnSays (L.Lookup.book look.now) b p words.old words.new (λ line. o_new (span_of line s)) result }
-{
-    let Some(is_there) = look.before(words, b, s) else {
-        return Err(Want::Before(s));
-    };
-    let number = again(is_there);
-    Ok(blame(words, b, p, s, number))
-}
-
-// Whether a name like that is bound in the line.
-fn is_bound(words: &[u32], b: Bounds, p: Place, s: Span) -> bool
-    requires { Fits b p words.now }
-    ensures { (k : Book) → result ≡ is_some (found_in (means k (take b.len words.now) b p words.now).bound (span_of (take b.len words.now) s).w) }
-{
-    match find(words, b, p, s) {
-        Some(_) => true,
-        None => false,
+impl<L: Lookup> Checker<'_, L> {
+    pub fn use_file(&self, words: &mut [u32], p: Place, s: Span) -> Result<Place, Want>
+        requires { Ready self.now.b p words.old }
+        ensures { TurnSays (L.Lookup.book self.now.look.now) self.now.b p words.old words.new (λ line. o_use (span_of line s)) result }
+    {
+        let is_there = self.look.file(words, self.b, s).ok_or(Want::File(s))?;
+        Ok(self.b.tell(words, p, s, file_verdict(is_there)))
     }
-}
 
-// A kind, or a constant of it, is named.
-pub fn constant<L: Lookup>(
-    look: &L,
-    words: &mut [u32],
-    b: Bounds,
-    p: Place,
-    s: Span,
-) -> Result<Place, Want>
-    requires { Ready b p words.old }
-    ensures { TurnSays (L.Lookup.book look.now) b p words.old words.new (λ line. o_const (span_of line s)) result }
-{
-    let Some(is_there) = look.before(words, b, s) else {
-        return Err(Want::Before(s));
-    };
-    let here = is_bound(words, b, p, s);
-    let number = again(is_there | here);
-    let q = blame(words, b, p, s, number);
-    Ok(bind(words, b, q, Bound { span: s, ty: NONE }))
-}
-
-// What a word is where a type has to be.
-fn type_of<L: Lookup>(look: &L, words: &[u32], b: Bounds, s: Span) -> Result<Verdict, Want>
-    requires { Within b words.now }
-    ensures { TypeTurn (L.Lookup.book look.now (take b.base words.now)) (take b.len words.now) (span_of (take b.len words.now) s) result }
-{
-    let word = word_of(words, b, s);
-    if same_word(word, &[110, 117, 109]) {
-        return Ok(Verdict {
-            ty: NUM,
-            fault: 0,
-            link: Link::No,
-        });
+    // Whether the file declares a name before the line.
+    fn declared_before(&self, words: &[u32], s: Span) -> Result<bool, Want>
+        requires { Within self.now.b words.now }
+        ensures { BeforeSays (L.Lookup.book self.now.look.now (take self.now.b.base words.now)) (take self.now.b.len words.now) s result }
+    {
+        self.look.before(words, self.b, s).ok_or(Want::Before(s))
     }
-    if same_word(word, &[98, 111, 111, 108]) {
-        return Ok(Verdict {
-            ty: BOOL,
-            fault: 0,
-            link: Link::No,
-        });
-    }
-    let Some(m) = look.here(words, b, s) else {
-        return Err(Want::Here(s));
-    };
-    Ok(judge(look, words, b, m, Role::Typed))
-}
 
-// A field or a parameter with its type.
-pub fn slot<L: Lookup>(
-    look: &L,
-    words: &mut [u32],
-    b: Bounds,
-    p: Place,
-    x: Span,
-    ty: Span,
-) -> Result<Place, Want>
-    requires { Ready b p words.old }
-    ensures { TurnSays (L.Lookup.book look.now) b p words.old words.new (λ line. o_slot (record { name = span_of line x; ty = span_of line ty })) result }
-{
-    match type_of(look, words, b, ty) {
-        Ok(v) => {
-            let here = is_bound(words, b, p, x);
-            let number = again(here);
-            let q = blame(words, b, p, x, number);
-            let r = tell(words, b, q, ty, v);
-            Ok(bind(words, b, r, Bound { span: x, ty: v.ty }))
+    // A record or def is named.
+    pub fn new_name(&self, words: &mut [u32], p: Place, s: Span) -> Result<Place, Want>
+        requires { Ready self.now.b p words.old }
+        ensures { TurnSays (L.Lookup.book self.now.look.now) self.now.b p words.old words.new (λ line. o_new (span_of line s)) result }
+    {
+        let is_there = self.declared_before(words, s)?;
+        Ok(self.b.blame(words, p, s, again(is_there)))
+    }
+
+    // A kind, or a constant of it, is named.
+    pub fn constant(&self, words: &mut [u32], p: Place, s: Span) -> Result<Place, Want>
+        requires { Ready self.now.b p words.old }
+        ensures { TurnSays (L.Lookup.book self.now.look.now) self.now.b p words.old words.new (λ line. o_const (span_of line s)) result }
+    {
+        let is_there = self.declared_before(words, s)?;
+        let is_bound = self.b.is_bound(words, p, s);
+        let q = self.b.blame(words, p, s, again(is_there || is_bound));
+        let name = Bound {
+            span: s,
+            ty: TypeWord::NONE,
+        };
+        Ok(self.b.bind(words, q, name))
+    }
+
+    // What a word is where a type has to be.
+    fn type_of(&self, words: &[u32], s: Span) -> Result<Verdict, Want>
+        requires { Within self.now.b words.now }
+        ensures { TypeTurn (L.Lookup.book self.now.look.now (take self.now.b.base words.now)) (take self.now.b.len words.now) (span_of (take self.now.b.len words.now) s) result }
+    {
+        let word = self.b.word_of(words, s);
+        if spells(word, b"num") {
+            return Ok(Verdict::typed(TypeWord::NUM));
         }
-        Err(want) => Err(want),
-    }
-}
-
-// A def's result.
-pub fn result<L: Lookup>(
-    look: &L,
-    words: &mut [u32],
-    b: Bounds,
-    p: Place,
-    s: Span,
-) -> Result<Place, Want>
-    requires { Ready b p words.old }
-    ensures { TurnSays (L.Lookup.book look.now) b p words.old words.new (λ line. o_result (span_of line s)) result }
-{
-    match type_of(look, words, b, s) {
-        Ok(v) => {
-            let q = tell(words, b, p, s, v);
-            Ok(push(
-                words,
-                b,
-                q,
-                Frame {
-                    ty: v.ty,
-                    span: s,
-                    sig: 0,
-                    next: 0,
-                },
-            ))
+        if spells(word, b"bool") {
+            return Ok(Verdict::typed(TypeWord::BOOL));
         }
-        Err(want) => Err(want),
+        let m = self.meaning(words, s)?;
+        Ok(self.judge(words, m, Role::Typed))
+    }
+
+    // A field or a parameter with its type.
+    pub fn slot(&self, words: &mut [u32], p: Place, x: Span, ty: Span) -> Result<Place, Want>
+        requires { Ready self.now.b p words.old }
+        ensures { TurnSays (L.Lookup.book self.now.look.now) self.now.b p words.old words.new (λ line. o_slot (record { name = span_of line x; ty = span_of line ty })) result }
+    {
+        let v = self.type_of(words, ty)?;
+        let is_bound = self.b.is_bound(words, p, x);
+        let q = self.b.blame(words, p, x, again(is_bound));
+        let r = self.b.tell(words, q, ty, v);
+        Ok(self.b.bind(words, r, Bound { span: x, ty: v.ty }))
+    }
+
+    // A def's result.
+    pub fn result(&self, words: &mut [u32], p: Place, s: Span) -> Result<Place, Want>
+        requires { Ready self.now.b p words.old }
+        ensures { TurnSays (L.Lookup.book self.now.look.now) self.now.b p words.old words.new (λ line. o_result (span_of line s)) result }
+    {
+        let v = self.type_of(words, s)?;
+        let q = self.b.tell(words, p, s, v);
+        Ok(self.b.push(words, q, Frame::value(v.ty, s)))
     }
 }

@@ -3,43 +3,35 @@ ghost use Rattle.std.specs.Prelude.{◌≡◌, ℕ, List, length, take, drop};
 ghost use Rattle.parser.specs.Rows.{span_of};
 ghost use Rattle.semantics.specs.Names.{same_ty};
 ghost use Rattle.semantics.specs.Walk.{q_here, q_there, q_file, q_before, first_slot};
-ghost use Rattle.checker.specs.Rows.{Book, typ, ty_of, result_is, MeaningSays, YesSays, FieldSays, Within};
+ghost use Rattle.checker.specs.Rows.{Book, ty_of, result_is, MeaningSays, YesSays, Within};
+ghost use Rattle.checker.specs.Types.{typed, SomeSmall, FieldSmall, FieldTyped};
 
 use crate::rows::Bounds;
 use parser::code::Span;
+use semantics::sort::Sort;
 
 // A kind or a record that is a type, and what is declared under a name, by the lookup's numbers.
-#[derive(Clone, Copy)]
+#[derive(Clone, Copy, PartialEq, Eq, Debug)]
 pub struct TypeId(pub u32);
 
-#[derive(Clone, Copy)]
+#[derive(Clone, Copy, PartialEq, Eq, Debug)]
 pub struct SigId(pub u32);
 
-// What a name means: one thing that is declared, nothing, or several things.
-#[derive(Clone, Copy)]
+// A type: a number, a truth value, or one of the lookup's.
+#[derive(Clone, Copy, PartialEq, Eq, Debug)]
+pub enum Type {
+    Num,
+    Bool,
+    Of(TypeId),
+}
+
+// What a name means: one thing that is declared, nothing, or several things. It's no Option: nothing and several are told apart.
+#[derive(Clone, Copy, PartialEq, Eq, Debug)]
 pub enum Meaning {
     Found(SigId),
     Unknown,
     Several,
 }
-
-// What is declared: a kind, a constant of one, a record, a def.
-#[derive(Clone, Copy)]
-pub enum Sort {
-    Kind,
-    Const,
-    Rec,
-    Def,
-}
-
-// The words of types: none, num, bool; from there on the lookup's types in their order.
-pub const NONE: u32 = 0;
-
-pub const NUM: u32 = 1;
-
-pub const BOOL: u32 = 2;
-
-pub const FIRST: u32 = 3;
 
 // What has to be known and isn't yet: what a name means here, what a type is, whether there is a file of that name, whether a name is declared before.
 #[derive(Clone, Copy)]
@@ -50,7 +42,9 @@ pub enum Want {
     Before(Span),
 }
 
-// Reads the words before the code, among which the line is. Of what it isn't told yet it says nothing. Types are given as words.
+// Reads the words before the code, among which the line is. Of what it isn't told yet it says nothing, and it gives no type where that
+// isn't known. It gives no type of its own whose number is one of the last three of a word: that leaves room for the others where a type
+// is packed into one word.
 pub trait Lookup {
     ghost book: { Self → List ℕ → Book };
 
@@ -79,9 +73,10 @@ pub trait Lookup {
         ensures { result ≡ ((book self.now (take b.base words.now)).sigs sig.0).sort };
 
     // The type of what is declared: of a kind or a record itself.
-    fn result(&self, words: &[u32], b: Bounds, sig: SigId) -> u32
+    fn result(&self, words: &[u32], b: Bounds, sig: SigId) -> Option<Type>
         requires { Within b words.now }
-        ensures { typ (book self.now (take b.base words.now)) result ≡ result_is ((book self.now (take b.base words.now)).sigs sig.0) };
+        ensures small { SomeSmall result }
+        ensures is { typed (book self.now (take b.base words.now)) result ≡ result_is ((book self.now (take b.base words.now)).sigs sig.0) };
 
     // How many fields or parameters there are.
     fn slots(&self, words: &[u32], b: Bounds, sig: SigId) -> u32
@@ -89,14 +84,16 @@ pub trait Lookup {
         ensures { result ≡ length ((book self.now (take b.base words.now)).sigs sig.0).slots };
 
     // The type of the one with that index.
-    fn slot(&self, words: &[u32], b: Bounds, sig: SigId, index: u32) -> u32
+    fn slot(&self, words: &[u32], b: Bounds, sig: SigId, index: u32) -> Option<Type>
         requires { Within b words.now }
-        ensures { typ (book self.now (take b.base words.now)) result ≡ first_slot (drop index ((book self.now (take b.base words.now)).sigs sig.0).slots) };
+        ensures small { SomeSmall result }
+        ensures is { typed (book self.now (take b.base words.now)) result ≡ first_slot (drop index ((book self.now (take b.base words.now)).sigs sig.0).slots) };
 
-    // The type of the first one of that name.
-    fn field(&self, words: &[u32], b: Bounds, sig: SigId, name: Span) -> Option<u32>
+    // The type of the first one of that name, if there is one.
+    fn field(&self, words: &[u32], b: Bounds, sig: SigId, name: Span) -> Option<Option<Type>>
         requires { Within b words.now }
-        ensures { FieldSays (book self.now (take b.base words.now)) ((book self.now (take b.base words.now)).sigs sig.0).slots (span_of (take b.len words.now) name).w result };
+        ensures small { FieldSmall result }
+        ensures is { FieldTyped (book self.now (take b.base words.now)) ((book self.now (take b.base words.now)).sigs sig.0).slots (span_of (take b.len words.now) name).w result };
 
     // Whether two types are the same.
     fn same(&self, words: &[u32], b: Bounds, x: TypeId, y: TypeId) -> bool

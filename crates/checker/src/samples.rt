@@ -2,9 +2,10 @@
 ghost use Rattle.std.specs.Prelude.{◌≡◌, length};
 ghost use Rattle.checker.specs.Samples.{empty_book, blank_book};
 
-use crate::lookup::{FIRST, Lookup, Meaning, NONE, SigId, Sort, TypeId};
+use crate::lookup::{Lookup, Meaning, SigId, Type, TypeId};
 use crate::rows::Bounds;
 use parser::code::Span;
+use semantics::sort::Sort;
 
 pub struct Empty;
 
@@ -31,19 +32,19 @@ impl Lookup for Empty {
         Sort::Kind
     }
 
-    fn result(&self, words: &[u32], b: Bounds, sig: SigId) -> u32 {
-        FIRST
+    fn result(&self, words: &[u32], b: Bounds, sig: SigId) -> Option<Type> {
+        Some(Type::Of(TypeId(0)))
     }
 
     fn slots(&self, words: &[u32], b: Bounds, sig: SigId) -> u32 {
         0
     }
 
-    fn slot(&self, words: &[u32], b: Bounds, sig: SigId, index: u32) -> u32 {
-        NONE
+    fn slot(&self, words: &[u32], b: Bounds, sig: SigId, index: u32) -> Option<Type> {
+        None
     }
 
-    fn field(&self, words: &[u32], b: Bounds, sig: SigId, name: Span) -> Option<u32> {
+    fn field(&self, words: &[u32], b: Bounds, sig: SigId, name: Span) -> Option<Option<Type>> {
         None
     }
 
@@ -77,19 +78,19 @@ impl Lookup for Blank {
         Sort::Kind
     }
 
-    fn result(&self, words: &[u32], b: Bounds, sig: SigId) -> u32 {
-        FIRST
+    fn result(&self, words: &[u32], b: Bounds, sig: SigId) -> Option<Type> {
+        Some(Type::Of(TypeId(0)))
     }
 
     fn slots(&self, words: &[u32], b: Bounds, sig: SigId) -> u32 {
         0
     }
 
-    fn slot(&self, words: &[u32], b: Bounds, sig: SigId, index: u32) -> u32 {
-        NONE
+    fn slot(&self, words: &[u32], b: Bounds, sig: SigId, index: u32) -> Option<Type> {
+        None
     }
 
-    fn field(&self, words: &[u32], b: Bounds, sig: SigId, name: Span) -> Option<u32> {
+    fn field(&self, words: &[u32], b: Bounds, sig: SigId, name: Span) -> Option<Option<Type>> {
         None
     }
 

@@ -1,10 +1,9 @@
 -- A line has no more operations than bytes, so that the words wanted go by its length.
-use Rattle.std.proofs.Common.{◌≡◌, ℕ, ◌+◌, ◌-◌, ◌*◌, ◌/◌, ◌<◌, ◌≤◌, List, [], ◌∷◌, length, take, drop, sym, refl, ap, ◌∙◌, inl, inr, arith}
+use Rattle.std.proofs.Common.{◌≡◌, ℕ, ◌+◌, ◌*◌, ◌≤◌, List, length, take, drop, ap, arith}
 use Rattle.std.proofs.lemmas.List.{length-take, length-drop}
-use Rattle.std.proofs.lemmas.Bool.{cases_lt}
-use Rattle.lexer.specs.Tokens.{toks, gap, pieces}
-use Rattle.grammar.specs.Grammar.{item_of, Item, i_bad}
-use Rattle.grammar.specs.Code.{Op, item_code}
+use Rattle.lexer.specs.Tokens.{toks, gap}
+use Rattle.grammar.specs.Grammar.{i_bad}
+use Rattle.grammar.specs.Code.{item_code}
 use Rattle.parser.specs.Rows.{ops_of}
 use Rattle.syntax.specs.Line.{item_in}
 use Rattle.semantics.proofs.Bytes.{toks_few}

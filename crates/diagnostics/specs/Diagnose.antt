@@ -1,5 +1,5 @@
 -- What reading and checking one line promises. ws is the row before, vs the row after; the line is the first len words.
-use Rattle.std.specs.Prelude.{◌≡◌, ℕ, ◌+◌, ◌*◌, ◌<◌, ◌≤◌, Bool, true, false, ◌⊎◌, List, [], ◌∷◌, length, take, Some, None, Ok, Err, Option as Perhaps, Result}
+use Rattle.std.specs.Prelude.{◌≡◌, ℕ, ◌+◌, ◌*◌, ◌<◌, ◌≤◌, Bool, true, false, ◌⊎◌, List, [], ◌∷◌, length, take, Ok, Err, Result}
 use Rattle.std.proofs.Math.Option.{some}
 use Rattle.base.specs.Base.{Word}
 use Rattle.grammar.specs.Code.{item_code, o_bad}
@@ -15,6 +15,7 @@ use Rattle.checker.specs.declared.check.Stop.{Stop}
 use Rattle.checker.specs.declared.check.Stop.TheVariants.{Needs, NoRoom}
 use Rattle.checker.specs.Rows.{Book, said_in, query_is}
 use Rattle.diagnostics.specs.declared.Findings.{Findings}
+use Rattle.diagnostics.specs.declared.NoRoom.{NoRoom as Tightness}
 
 -- too few words, or a line that can't be: longer than places go, or not before base
 abbrev pub Tight : ℕ → ℕ → ℕ → Type 0
@@ -25,16 +26,16 @@ RoomySays len base total true = (len < 4294967000) × (len ≤ base) × (base + 
 RoomySays len base total false = Tight len base total
 
 -- the code of a line that isn't understood; none where it wasn't read for want of room
-abbrev pub WrongSays : Refusal → ℕ → List ℕ → Perhaps ℕ → Type 0
-WrongSays (WrongAt s) base vs (Some n) = (n ≡ 1) × ((line : List ℕ) → ops_of line base 1 vs ≡ o_bad s.from s.to ∷ [])
-WrongSays (WrongAt s) base vs None = ⊥
-WrongSays Full base vs (Some n) = ⊥
-WrongSays Full base vs None = Unit {0}
+abbrev pub WrongSays : Refusal → ℕ → List ℕ → Result ℕ Tightness → Type 0
+WrongSays (WrongAt s) base vs (Ok n) = (n ≡ 1) × ((line : List ℕ) → ops_of line base 1 vs ≡ o_bad s.from s.to ∷ [])
+WrongSays (WrongAt s) base vs (Err e) = ⊥
+WrongSays Full base vs (Ok n) = ⊥
+WrongSays Full base vs (Err e) = Unit {0}
 
 -- the line's code stands from base on, one operation for one that isn't understood
-abbrev pub CodeSays : List ℕ → ℕ → ℕ → List ℕ → Perhaps ℕ → Type 0
-CodeSays ws len base vs (Some n) = (n ≤ len) × (len ≤ base) × (base + 25 * len ≤ length vs) × (ops_of (take len ws) base n vs ≡ item_code (item_in (take len ws)))
-CodeSays ws len base vs None = Tight len base (length ws)
+abbrev pub CodeSays : List ℕ → ℕ → ℕ → List ℕ → Result ℕ Tightness → Type 0
+CodeSays ws len base vs (Ok n) = (n ≤ len) × (len ≤ base) × (base + 25 * len ≤ length vs) × (ops_of (take len ws) base n vs ≡ item_code (item_in (take len ws)))
+CodeSays ws len base vs (Err e) = Tight len base (length ws)
 
 -- n things stand from a place on, and are what the definition says of the line, wherever what the lookup knows is so
 abbrev pub Found : Book → List ℕ → ℕ → ℕ → List ℕ → Type 0

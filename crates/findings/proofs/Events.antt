@@ -1,11 +1,12 @@
--- What is said in four words, part by part: a fault, a type or a link; and of the things said in a row one more.
-use Rattle.std.proofs.Common.{◌≡◌, ℕ, zero, suc, ◌+◌, ◌*◌, Bool, true, false, eqb, List, [], ◌∷◌, ◌++◌, get_or, refl, ap, arith}
+-- What is said in four words: as an event, and its fault.
+use Rattle.std.proofs.Common.{◌≡◌, ℕ, zero, suc, ◌+◌, ◌*◌, Bool, true, false, eqb, List, [], ◌∷◌, get_or, refl}
 use mathlib.Core.Option.{none}
-use Rattle.std.proofs.lemmas.Bool.{eqb-true, ne_eqb}
-use Rattle.base.specs.Base.{pick, opt}
+use Rattle.base.specs.Base.{pick}
 use Rattle.lexer.specs.Tokens.{piece}
-use Rattle.semantics.specs.Check.{Said, said, fault, Typed, link_to, faults_in, types_in, links_in}
-use Rattle.checker.specs.Rows.{Book, typ, noted_type, event_said, said_in}
+use Rattle.semantics.specs.Check.{Said, said, fault, link_to, faults_in}
+use Rattle.checker.specs.declared.said.Link.TheVariants.{Declared, Local, File}
+use Rattle.checker.specs.declared.said.Said.TheVariants.{Fault, «Type» as Types, Link}
+use Rattle.checker.specs.Rows.{Book, typ, noted_type, event_said, event_in, event_by as event_of, event_at, told_is, event_is, said_in}
 use Rattle.findings.specs.Said.{fault_of, faults_read}
 
 -- what is said, by the tests of its tag
@@ -15,9 +16,19 @@ event_by p q r s k line a b x = pick p (said none (fault a b x ∷ []) [] []) (p
     (pick s (said none [] [] (record { from = a; to = b; sort = 1; file = []; name = (piece line a b).w; at = x } ∷ []))
     (said none [] [] (record { from = a; to = b; sort = 2; file = (piece line a b).w; name = []; at = 0 } ∷ [])))))
 
--- the four words from a place on
-abbrev pub event_in : Book → List ℕ → List ℕ → ℕ → Said
-event_in k line vs i = event_said k line (get_or vs i 0) (get_or vs (i + 1) 0) (get_or vs (i + 2) 0) (get_or vs (i + 3) 0)
+-- what is read from four words is what they say
+event_told : (k : Book) (line : List ℕ) (t a b x : ℕ) → event_said k line t a b x ≡ event_is k line (event_of t a b x)
+event_told k line t a b x = go (eqb t 0) (eqb t 1) (eqb t 2) (eqb t 3)
+  where
+    go : (p q r s : Bool) → event_by p q r s k line a b x ≡ told_is k (piece line a b) (pick p (Fault x) (pick q (Types (record { 0 = x })) (pick r (Link (Declared (record { 0 = x }))) (pick s (Link (Local x)) (Link File)))))
+    go true q r s = refl
+    go false true r s = refl
+    go false false true s = refl
+    go false false false true = refl
+    go false false false false = refl
+
+pub told_so : (k : Book) (line ws : List ℕ) (i : ℕ) → event_in k line ws i ≡ event_is k line (event_at ws i)
+told_so k line ws i = event_told k line (get_or ws i 0) (get_or ws (i + 1) 0) (get_or ws (i + 2) 0) (get_or ws (i + 3) 0)
 
 -- its faults
 event_faults : (k : Book) (line : List ℕ) (t a b x : ℕ) → faults_in (event_said k line t a b x) ≡ fault_of t a b x
@@ -37,29 +48,3 @@ said_faults k line at1 (suc n) vs =
     let a = said_faults k line at1 n vs in
     let b = event_faults k line (get_or vs (at1 + 4 * n) 0) (get_or vs (at1 + 4 * n + 1) 0) (get_or vs (at1 + 4 * n + 2) 0) (get_or vs (at1 + 4 * n + 3) 0) in
     cc
-
--- its types
-abbrev pub typed_list : Book → ℕ → ℕ → ℕ → List Typed
-typed_list k a b x = opt (typ k x) [] (λ t. record { from = a; to = b; ty = t } ∷ [])
-
-types_by : (p q r s : Bool) (k : Book) (line : List ℕ) (a b x : ℕ) → (q ≡ true → p ≡ false) → types_in (event_by p q r s k line a b x) ≡ pick q (typed_list k a b x) []
-types_by true true r s k line a b x h = let z : true ≡ false = h refl in cc
-types_by true false r s k line a b x h = refl
-types_by false true r s k line a b x h = refl
-types_by false false true s k line a b x h = refl
-types_by false false false true k line a b x h = refl
-types_by false false false false k line a b x h = refl
-
-pub event_types : (k : Book) (line : List ℕ) (t a b x : ℕ) → types_in (event_said k line t a b x) ≡ pick (eqb t 1) (typed_list k a b x) []
-event_types k line t a b x = types_by (eqb t 0) (eqb t 1) (eqb t 2) (eqb t 3) k line a b x (λ e. ne_eqb t 0 (λ z. omega (arith, eqb-true t 1 e)))
-
--- one more
-pub types_more : (k : Book) (line : List ℕ) (at1 i : ℕ) (vs : List ℕ) → (said_in k line at1 (i + 1) vs).types ≡ (said_in k line at1 i vs).types ++ types_in (event_in k line vs (at1 + 4 * i))
-types_more k line at1 i vs =
-    let n : i + 1 ≡ suc i = omega arith in
-    ap (λ m. (said_in k line at1 m vs).types) n
-
-pub links_more : (k : Book) (line : List ℕ) (at1 i : ℕ) (vs : List ℕ) → (said_in k line at1 (i + 1) vs).links ≡ (said_in k line at1 i vs).links ++ links_in (event_in k line vs (at1 + 4 * i))
-links_more k line at1 i vs =
-    let n : i + 1 ≡ suc i = omega arith in
-    ap (λ m. (said_in k line at1 m vs).links) n

@@ -1,13 +1,12 @@
 -- Answers given: numbers at the front of what is lent, o before and o' after.
-use Rattle.std.specs.Prelude.{◌≡◌, ℕ, ◌+◌, ◌*◌, ◌<◌, List, length, take, drop}
-use Rattle.findings.specs.declared.give.Given.{Given}
-use Rattle.findings.specs.declared.give.Given.TheVariants.{Words, Full}
+use Rattle.std.specs.Prelude.{◌≡◌, ℕ, ◌+◌, ◌*◌, ◌<◌, List, length, take, drop, Ok, Err, Result}
+use Rattle.findings.specs.declared.give.Short.{Short}
 use Rattle.findings.specs.Gathered.{gathered}
 
 -- all of the answer a, or nothing where it is longer than what is lent
-abbrev pub GivenSays : List ℕ → List ℕ → List ℕ → Given → Type 0
-GivenSays a o o' (Words n) = (n ≡ length a) × (take n o' ≡ a) × (drop n o' ≡ drop n o)
-GivenSays a o o' (Full n) = (n ≡ length a) × (length o < n) × (o' ≡ o)
+abbrev pub GivenSays : List ℕ → List ℕ → List ℕ → Result ℕ Short → Type 0
+GivenSays a o o' (Ok n) = (n ≡ length a) × (take n o' ≡ a) × (drop n o' ≡ drop n o)
+GivenSays a o o' (Err s) = (s.0 ≡ length a) × (length o < s.0) × (o' ≡ o)
 
 -- a row put at a place of another
 pub record Put (row1 : List ℕ) (k : ℕ) (o o' : List ℕ) : Type 0 where

@@ -17,5 +17,5 @@ faults_read vs at1 zero = []
 faults_read vs at1 (suc n) = faults_read vs at1 n ++ fault_in vs (at1 + 4 * n)
 
 abbrev pub FaultSays : List Fault → Perhaps FaultAt → Type 0
-FaultSays fs (Some x) = fs ≡ fault x.from x.to x.sort ∷ []
+FaultSays fs (Some x) = fs ≡ fault x.span.from x.span.to x.number ∷ []
 FaultSays fs None = fs ≡ []

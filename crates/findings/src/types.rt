@@ -1,28 +1,27 @@
 // The types noted of a line's expressions: the smallest expression around a place.
 ghost use Rattle.std.specs.Prelude.{◌≡◌, ◌+◌, ◌-◌, ◌*◌, ◌≤◌, length};
 ghost use Rattle.semantics.specs.Answers.{around};
-ghost use Rattle.findings.specs.Smallest.{HasType, NotedSays, less, IsSmallest};
+ghost use Rattle.findings.specs.Smallest.{HasType, less, IsSmallest};
 
-use crate::tags::TYPE;
+use crate::all_said;
+use checker::packed::TypeWord;
+use checker::said::{Event, Said};
 use diagnostics::Findings;
+use parser::code::Span;
 
-// The word of no type.
-const UNTYPED: u32 = 0;
-
-// A type noted of an expression: where that stands in its line, and the type's word (1 num, 2 bool, 3 + n the lookup's type n).
+// A type noted of an expression: where that stands in its line, and the type, as a word.
 #[derive(Clone, Copy)]
 pub struct Noted {
-    pub from: u32,
-    pub to: u32,
-    pub ty: u32,
+    pub span: Span,
+    pub ty: TypeWord,
 }
 
 impl Noted {
     // How many bytes long.
     fn size(self) -> u32
-        ensures { result ≡ self.to - self.from }
+        ensures { result ≡ self.span.to - self.span.from }
     {
-        self.to.saturating_sub(self.from)
+        self.span.to.saturating_sub(self.span.from)
     }
 
     // The smaller of this one and an older one, which stays where they are equally small.
@@ -36,26 +35,11 @@ impl Noted {
     }
 }
 
-// Whether a place lies between two.
-pub fn is_around(place: usize, from: u32, to: u32) -> bool
-    ensures { result ≡ around place from to }
+// Whether a place lies in a part of a line.
+pub fn is_around(place: usize, span: Span) -> bool
+    ensures { result ≡ around place span.from span.to }
 {
-    from as usize <= place && place < to as usize
-}
-
-// The type noted in the four words from a place on, if they note one.
-fn noted_at(words: &[u32], i: usize) -> Option<Noted>
-    requires { i + 4 ≤ length words.now }
-    ensures { NotedSays words.now i result }
-{
-    if words[i] != TYPE || words[i + 3] == UNTYPED {
-        return None;
-    }
-    Some(Noted {
-        from: words[i + 1],
-        to: words[i + 2],
-        ty: words[i + 3],
-    })
+    (span.from as usize..span.to as usize).contains(&place)
 }
 
 // Of the expressions around a place whose type was noted the smallest, the first of those.
@@ -65,14 +49,17 @@ pub fn smallest(words: &[u32], f: Findings, place: usize) -> Option<Noted>
     ensures finds { IsSmallest words.now f.«at» f.count place result }
 {
     let mut best = None;
-    for i in 0..f.count {
-        let Some(x) = noted_at(words, f.at + 4 * i) else {
+    for Event { span, said } in all_said(words, f) {
+        let Said::Type(ty) = said else {
             continue;
         };
-        if !is_around(place, x.from, x.to) {
+        if ty == TypeWord::NONE {
             continue;
         }
-        best = Some(x.smaller(best));
+        if !is_around(place, span) {
+            continue;
+        }
+        best = Some(Noted { span, ty }.smaller(best));
     }
     best
 }

@@ -1,4 +1,4 @@
-// Two typed lookups that need no declarations, and the checker tried with them.
+// The checker tried with two lookups that need no declarations, and types tried in words.
 #![tactic(auto)]
 
-pub mod samples;
+mod samples;

@@ -1,114 +1,16 @@
-// Two lookups with typed answers to try the checker with: one that knows of every name that it means nothing, and one that knows nothing yet.
+// The checker's two samples: a lookup that knows of every name that it means nothing, and one that knows nothing yet.
+// The first two tests stand in the checker too; here the same is tried from outside of its crate, by its public names.
 ghost use Rattle.std.specs.Prelude.{◌≡◌, length};
-ghost use Rattle.checker.specs.Samples.{empty_book, blank_book};
-
-use checker::lookup::{Meaning, SigId, Sort, TypeId};
-use checker::rows::Bounds;
-use parser::code::Span;
-use typed_lookup::lookup::{Type, TypedLookup};
-
-pub struct Empty;
-
-impl TypedLookup for Empty {
-    ghost book = { λ _ _. empty_book };
-
-    fn here(&self, words: &[u32], b: Bounds, name: Span) -> Option<Meaning> {
-        Some(Meaning::Unknown)
-    }
-
-    fn there(&self, words: &[u32], b: Bounds, ty: TypeId) -> Option<Meaning> {
-        Some(Meaning::Unknown)
-    }
-
-    fn file(&self, words: &[u32], b: Bounds, name: Span) -> Option<bool> {
-        Some(false)
-    }
-
-    fn before(&self, words: &[u32], b: Bounds, name: Span) -> Option<bool> {
-        Some(false)
-    }
-
-    fn sort(&self, words: &[u32], b: Bounds, sig: SigId) -> Sort {
-        Sort::Kind
-    }
-
-    fn result(&self, words: &[u32], b: Bounds, sig: SigId) -> Type {
-        Type::Of(TypeId(0))
-    }
-
-    fn slots(&self, words: &[u32], b: Bounds, sig: SigId) -> u32 {
-        0
-    }
-
-    fn slot(&self, words: &[u32], b: Bounds, sig: SigId, index: u32) -> Type {
-        Type::None
-    }
-
-    fn field(&self, words: &[u32], b: Bounds, sig: SigId, name: Span) -> Option<Type> {
-        None
-    }
-
-    fn same(&self, words: &[u32], b: Bounds, x: TypeId, y: TypeId) -> bool {
-        true
-    }
-}
-
-pub struct Blank;
-
-impl TypedLookup for Blank {
-    ghost book = { λ _ _. blank_book };
-
-    fn here(&self, words: &[u32], b: Bounds, name: Span) -> Option<Meaning> {
-        None
-    }
-
-    fn there(&self, words: &[u32], b: Bounds, ty: TypeId) -> Option<Meaning> {
-        None
-    }
-
-    fn file(&self, words: &[u32], b: Bounds, name: Span) -> Option<bool> {
-        None
-    }
-
-    fn before(&self, words: &[u32], b: Bounds, name: Span) -> Option<bool> {
-        None
-    }
-
-    fn sort(&self, words: &[u32], b: Bounds, sig: SigId) -> Sort {
-        Sort::Kind
-    }
-
-    fn result(&self, words: &[u32], b: Bounds, sig: SigId) -> Type {
-        Type::Of(TypeId(0))
-    }
-
-    fn slots(&self, words: &[u32], b: Bounds, sig: SigId) -> u32 {
-        0
-    }
-
-    fn slot(&self, words: &[u32], b: Bounds, sig: SigId, index: u32) -> Type {
-        Type::None
-    }
-
-    fn field(&self, words: &[u32], b: Bounds, sig: SigId, name: Span) -> Option<Type> {
-        None
-    }
-
-    fn same(&self, words: &[u32], b: Bounds, x: TypeId, y: TypeId) -> bool {
-        true
-    }
-}
 
 #[cfg(test)]
 mod tests {
-    use super::{Blank, Empty};
     use checker::check::{Stop, check};
-    use checker::lookup::{Lookup, SigId, TypeId, Want};
+    use checker::lookup::{Lookup, SigId, Type, TypeId, Want};
+    use checker::packed::TypeWord;
     use checker::rows::Bounds;
+    use checker::samples::{Blank, Empty};
     use parser::code::{Op, Span, emit};
     use std::test::Fail;
-    use typed_lookup::lookup::Type;
-    use typed_lookup::packed::{Packed, pack, unpack};
 
     // The line a(b) and its code.
     fn write(words: &mut [u32])
@@ -130,7 +32,7 @@ mod tests {
         let mut words = [0; 104];
         write(&mut words);
         match check(
-            &Packed(&Empty),
+            &Empty,
             &mut words,
             Bounds {
                 len: 4,
@@ -156,7 +58,7 @@ mod tests {
         let mut words = [0; 104];
         write(&mut words);
         match check(
-            &Packed(&Blank),
+            &Blank,
             &mut words,
             Bounds {
                 len: 4,
@@ -177,14 +79,14 @@ mod tests {
 
     #[test]
     fn a_type_is_one_word(rt: HostRuntime) {
-        assert_eq!(rt; pack(Type::None), 0);
-        assert_eq!(rt; pack(Type::Num), 1);
-        assert_eq!(rt; pack(Type::Bool), 2);
-        assert_eq!(rt; pack(Type::Of(TypeId(4))), 7);
-        assert!(rt; matches!(unpack(0), Type::None));
-        assert!(rt; matches!(unpack(1), Type::Num));
-        assert!(rt; matches!(unpack(2), Type::Bool));
-        assert!(rt; matches!(unpack(7), Type::Of(TypeId(4))));
+        assert_eq!(rt; TypeWord::pack(None), TypeWord(0));
+        assert_eq!(rt; TypeWord::pack(Some(Type::Num)), TypeWord(1));
+        assert_eq!(rt; TypeWord::pack(Some(Type::Bool)), TypeWord(2));
+        assert_eq!(rt; TypeWord::pack(Some(Type::Of(TypeId(4)))), TypeWord(7));
+        assert_eq!(rt; TypeWord(0).unpack(), None);
+        assert_eq!(rt; TypeWord(1).unpack(), Some(Type::Num));
+        assert_eq!(rt; TypeWord(2).unpack(), Some(Type::Bool));
+        assert_eq!(rt; TypeWord(7).unpack(), Some(Type::Of(TypeId(4))));
     }
 
     #[test]
@@ -196,9 +98,14 @@ mod tests {
             count: 0,
         };
         let name = Span { from: 0, to: 1 };
-        let look = Packed(&Empty);
-        assert_eq!(rt; look.result(&words, b, SigId(0)), 3);
-        assert_eq!(rt; look.slot(&words, b, SigId(0), 0), 0);
-        assert!(rt; matches!(look.field(&words, b, SigId(0), name), None));
+        assert_eq!(rt;
+            TypeWord::pack(Empty.result(&words, b, SigId(0))),
+            TypeWord(3)
+        );
+        assert_eq!(rt;
+            TypeWord::pack(Empty.slot(&words, b, SigId(0), 0)),
+            TypeWord(0)
+        );
+        assert_eq!(rt; Empty.field(&words, b, SigId(0), name), None);
     }
 }

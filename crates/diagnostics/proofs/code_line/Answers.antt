@@ -1,4 +1,4 @@
-use Rattle.std.proofs.Common.{◌≡◌, length, take, sym, ap, ◌∙◌, arith, rules}
+use Rattle.std.proofs.Common.{◌∙◌, arith, rules}
 use Rattle.diagnostics.proofs.Lengths.{few_in}
 use Rattle.diagnostics.proofs.Joins.{wrong_coded}
 use Rattle.diagnostics.proofs.code_line.Goals as goal

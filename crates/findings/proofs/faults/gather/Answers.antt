@@ -1,29 +1,20 @@
-use Rattle.std.proofs.Common.{ℕ, ◌+◌, List, ◌++◌, sym, refl, ap, ◌∙◌, subst, append-nil, arith}
-use Rattle.semantics.specs.Answers.{fault_words}
-use Rattle.findings.specs.Said.{faults_read}
-use Rattle.findings.specs.Gathered.{Gathering, gathered}
-use Rattle.findings.proofs.Gathers.{none_more, one_more}
+use Rattle.std.proofs.Common.{◌+◌, ◌*◌, List, ℕ, take, sym, ap, ◌∙◌, subst}
+use Rattle.checker.specs.Rows.{events_of}
+use Rattle.checker.proofs.Events.{events_in}
+use Rattle.findings.specs.Gathered.{fault_told, Gathering}
+use Rattle.findings.proofs.Gathers.{none_told, all_left, none_more, one_more, all_in}
 use Rattle.findings.proofs.faults.gather.Goals as goal
 
-pub loop-i-init : goal.loop-i-init
-loop-i-init c = record { front = refl; behind = λ j l. refl; adds = λ j z. sym (ap (λ i. gathered c.args.words.now c.args.q c.args.n ++ fault_words c.args.start (faults_read c.args.words.now c.args.f.at i)) z ∙ append-nil (gathered c.args.words.now c.args.q c.args.n)); few = omega arith }
+pub loop-span-init : goal.loop-span-init
+loop-span-init c = all_left c.args.words.now c.args.f.at c.args.f.count c.args.start c.args.q c.args.n c.requires.apart _ _ c.requires.within c.split_at_mut-out.ensures.front (ap (λ s. events_of s.0.now) c.into_iter-span-iterator.ensures.into_iter_gives ∙ ap (λ r. events_of (take (4 * c.args.f.count) r)) c.split_at_mut-out.ensures.back ∙ events_in c.args.words.now c.args.f.at c.args.f.count c.requires.within)
 
-pub loop-i-preserved-in_default : goal.loop-i-preserved-in_default
-loop-i-preserved-in_default c = none_more c.args.words.now c.args.f.at c.args.start c.args.q c.args.n c.loop-i.words c.loop-i.m c.loop-i.i c.loop-i.invariant c.in_default.ensures
+pub loop-span-preserved-in_default : goal.loop-span-preserved-in_default
+loop-span-preserved-in_default c = none_more c.args.words.now c.args.f.at c.args.f.count c.args.start c.args.q c.args.n c.requires.apart c.loop-span.out c.loop-span.m _ c.loop-span.invariant _ _ c.in-Some.ensures.steps (none_told _ _ _ c.in_default.not-Fault)
 
-pub overflow_mul-m : goal.overflow_mul-m
-overflow_mul-m c = omega (arith, c.loop-i.invariant.few)
+pub loop-span-preserved : goal.loop-span-preserved
+loop-span-preserved c =
+    let P : List ℕ → Type 0 = λ us. Gathering c.args.words.now c.args.f.at c.args.f.count c.args.start c.args.q c.args.n us (c.loop-span.m + 1) (events_of c.next.new.self.0.now) in
+    subst P (sym c.put_fault.ensures) (one_more c.args.words.now c.args.f.at c.args.f.count c.args.start c.args.q c.args.n c.requires.apart c.loop-span.out c.loop-span.m _ c.loop-span.invariant _ _ c.in-Some.ensures.steps c.in-Some.field-0.span.from c.in-Some.field-0.span.to c.in-Fault.number (ap (fault_told _ _) c.in-Fault.is))
 
-pub overflow_add-q : goal.overflow_add-q
-overflow_add-q c = omega (arith, c.loop-i.invariant.few)
-
-pub put_fault-requires : goal.put_fault-requires
-put_fault-requires c = omega (arith, c.loop-i.invariant.few)
-
-pub overflow_add-m : goal.overflow_add-m
-overflow_add-m c = omega (arith, c.loop-i.invariant.few)
-
-pub loop-i-preserved : goal.loop-i-preserved
-loop-i-preserved c =
-    let P : List ℕ → Type 0 = λ us. Gathering c.args.words.now c.args.f.at c.args.start c.args.q c.args.n us (c.loop-i.m + 1) (c.loop-i.i + 1) in
-    subst P (sym c.put_fault.ensures) (one_more c.args.words.now c.args.f.at c.args.start c.args.q c.args.n c.loop-i.words c.loop-i.m c.loop-i.i c.loop-i.invariant c.in-Some.x.from c.in-Some.x.to c.in-Some.x.sort (omega (arith, c.loop-i.invariant.few)) (omega (arith, c.loop-i.invariant.few)) c.in-Some.ensures)
+pub returns-clause-adds : goal.returns-clause-adds
+returns-clause-adds c = all_in c.args.words.now c.args.f.at c.args.f.count c.args.start c.args.q c.args.n c.requires.apart c.loop-span.out c.loop-span.m _ c.loop-span.invariant _ c.in-None.ensures.steps.0
