@@ -83,7 +83,7 @@ frames_is ms (works k gs q ∷ st) (suc n) rows fs h s =
 abbrev pub decoded : List ℕ → List ℕ → ℕ → ℕ → Now → State
 decoded ms w r f (Call k) = call (kept (kept_entries ms)) k (frames_of f ms (take r w) (deep f w))
 decoded ms w r f (Back n) = back (kept (kept_entries ms)) (take n (drop (r + 1) w)) (frames_of f ms (take r w) (deep f w))
-decoded ms w r f (Tell k n from) = tell (kept (kept_entries ms)) k (unstacked n (deep f w) (drop from (take r w))) (frames_of f ms (take from (take r w)) (drop (3 * n) (deep f w)))
+decoded ms w r f (Tell q) = tell (kept (kept_entries ms)) q.key (unstacked q.count (deep f w) (drop q.from (take r w))) (frames_of f ms (take q.from (take r w)) (drop (3 * q.count) (deep f w)))
 
 pub deep_short : (f : ℕ) (w : List ℕ) → length (deep f w) ≤ f
 deep_short f w = let d = length-drop (length w - f) w in omega arith
@@ -100,9 +100,11 @@ module _ (b : Rules) (i : Inputs) (n₀ : ℕ) (ms w : List ℕ) (r f : ℕ) whe
       let e = frames_is ms st f (take r w) (deep f w) (deep_short f w) d.4 in
       left_back_alike b i n₀ m (kept (kept_entries ms)) a st d.3 ∙ (λ t. left b i n₀ (back (kept (kept_entries ms)) (sym d.1 t) (sym e t)))
   left_decoded (Back n) (tell m j gs st) d = absurd d
-  left_decoded (Tell k n from) (call m j st) d = absurd d
-  left_decoded (Tell k n from) (back m a st) d = absurd d
-  left_decoded (Tell k n from) (tell m j gs st) d =
+  left_decoded (Tell q) (call m j st) d = absurd d
+  left_decoded (Tell q) (back m a st) d = absurd d
+  left_decoded (Tell q) (tell m j gs st) d =
+      let n = q.count in
+      let from = q.from in
       let t = d.3 in
       let fs = deep f w in
       let rows = take r w in

@@ -15,16 +15,18 @@ use Rattle.memo.specs.Record.{deep}
 use Rattle.memo.specs.Log.{kept_entries, spare, Marked, entries_at}
 use Rattle.memo.specs.declared.mark.Mark.{Mark}
 use Rattle.memo.proofs.Places.{deep_long}
+use Rattle.std.specs.Prelude.{Ok, Err}
+use Rattle.memo.specs.declared.log.NoRoom.{NoRoom}
 use Rattle.driver.specs.declared.state.At.{At}
 use Rattle.driver.specs.declared.state.Now.{Now}
 use Rattle.driver.specs.declared.state.Now.TheVariants.{Call, Back, Tell}
 use Rattle.driver.specs.Rows.{Stack}
 use Rattle.driver.specs.Says.{memo_in}
-use Rattle.driver.specs.Doing.{Doing, Area, Grown, stored_long}
+use Rattle.driver.specs.Doing.{Doing, desk, Area, Grown, stored_long}
 use Rattle.driver.specs.Turns.{tellings, added, TurnSays}
 use Rattle.driver.specs.Bringing.{brings, EndSays}
 use Rattle.driver.proofs.Decode.{decoded, left_decoded}
-use Rattle.driver.proofs.Memos.{memo_long}
+use Rattle.driver.proofs.Lent.{memo_long}
 use Rattle.driver.proofs.Returns.{frame_seven}
 use Rattle.driver.proofs.Rooms.{long_of, state_words, goes_room, tight_room}
 
@@ -36,7 +38,7 @@ pub record Going (b : Rules) (i : Inputs) (k : Key) (es : List Entry) (mark : Ma
   pub others : Others b i es (kept_of c).entries
   pub inner : Inner b c
   pub doing : Doing (memo_in known memo ws) (drop memo ws) t.rows t.frames t.now c
-  pub area : Area ws known memo t.rows t.frames
+  pub area : Area ws (desk known memo t.rows t.frames)
   pub marked : Marked (memo_in known memo ws) mark
   pub entries1 : entries_at (memo_in known memo ws) mark ≡ es
   pub before : take known ws ≡ take known ws₀
@@ -78,9 +80,9 @@ goes_turn b i ms w r f (Call k) (tell m j gs st) d = absurd d
 goes_turn b i ms w r f (Back n) (call m j st) d = absurd d
 goes_turn b i ms w r f (Back n) (back m a st) d = let e = ap (λ (x : Kept). x.goes) (kept_back m a st) in omega (arith, e)
 goes_turn b i ms w r f (Back n) (tell m j gs st) d = absurd d
-goes_turn b i ms w r f (Tell k n from) (call m j st) d = absurd d
-goes_turn b i ms w r f (Tell k n from) (back m a st) d = absurd d
-goes_turn b i ms w r f (Tell k n from) (tell m j gs st) d = go (b.next j (answers gs))
+goes_turn b i ms w r f (Tell q) (call m j st) d = absurd d
+goes_turn b i ms w r f (Tell q) (back m a st) d = absurd d
+goes_turn b i ms w r f (Tell q) (tell m j gs st) d = go (b.next j (answers gs))
   where
     go : (t : Then) → (kept_of (told m j gs st t)).goes ≡ m.goes + 1
     go (done a) = refl
@@ -96,7 +98,7 @@ module _ (b : Rules) (i : Inputs) (fall : Falls b) (k : Key) (es : List Entry) w
       go (done a) = done_total b i fall es k long_of m j gs st a w
       go (ask q) = omega arith
 
-  pub going_starts : (mark : Mark) (known memo : ℕ) (ws : List ℕ) (c₀ : ℕ) → Area ws known memo 0 0 → kept_entries (memo_in known memo ws) ≡ es → Honest b (kept es) → b.input k ≡ false → Marked (memo_in known memo ws) mark → entries_at (memo_in known memo ws) mark ≡ kept_entries (memo_in known memo ws)
+  pub going_starts : (mark : Mark) (known memo : ℕ) (ws : List ℕ) (c₀ : ℕ) → Area ws (desk known memo 0 0) → kept_entries (memo_in known memo ws) ≡ es → Honest b (kept es) → b.input k ≡ false → Marked (memo_in known memo ws) mark → entries_at (memo_in known memo ws) mark ≡ kept_entries (memo_in known memo ws)
       → Going b i k es mark known memo ws c₀ (spare (memo_in known memo ws)) ws c₀ (record { rows = 0; frames = 0; now = Call k })
   unfolding spare
   going_starts mark known memo ws c₀ area e h p mk em =
@@ -143,9 +145,9 @@ module _ (b : Rules) (i : Inputs) (fall : Falls b) (k : Key) (es : List Entry) w
         go (Back n) p (back m a []) x = at_end1 n p _ x.4
         go (Back n) p (back m a (fr ∷ st)) x = tt
         go (Back n) p (tell m j gs st) x = absurd x
-        go (Tell q n from) p (call m j st) x = absurd x
-        go (Tell q n from) p (back m a st) x = absurd x
-        go (Tell q n from) p (tell m j gs st) x = tt
+        go (Tell q) p (call m j st) x = absurd x
+        go (Tell q) p (back m a st) x = absurd x
+        go (Tell q) p (tell m j gs st) x = tt
 
     -- how often rules were told is within the words of the row, with one telling to spare
     pub going_count : d + 1 ≤ c₀ + length ws
@@ -160,7 +162,7 @@ module _ (b : Rules) (i : Inputs) (fall : Falls b) (k : Key) (es : List Entry) w
         omega (arith, y, z, u, v, f, l)
 
     -- a turn made
-    pub going_turn : (vs : List ℕ) (s : At) (d1 : ℕ) → EndSays t None → TurnSays b i known memo t.rows t.frames t.now ws vs (Some s) → d1 ≡ d + tellings t.now → Going b i k es mark known memo ws₀ c₀ s₀ vs d1 s
+    pub going_turn : (vs : List ℕ) (s : At) (d1 : ℕ) → EndSays t None → TurnSays b i (desk known memo t.rows t.frames) t.now ws vs (Ok s) → d1 ≡ d + tellings t.now → Going b i k es mark known memo ws₀ c₀ s₀ vs d1 s
     going_turn vs s d1 e x p =
         let y = x g.c (going_busy e) g.doing in
         let gr = y.1 in
@@ -187,7 +189,7 @@ module _ (b : Rules) (i : Inputs) (fall : Falls b) (k : Key) (es : List Entry) w
         }
 
     -- fewer turns are left after it
-    pub going_less : (vs : List ℕ) (s : At) → EndSays t None → TurnSays b i known memo t.rows t.frames t.now ws vs (Some s)
+    pub going_less : (vs : List ℕ) (s : At) → EndSays t None → TurnSays b i (desk known memo t.rows t.frames) t.now ws vs (Ok s)
         → left b i (suc (b.rank k)) (decoded (memo_in known memo vs) (drop memo vs) s.rows s.frames s.now) < left b i (suc (b.rank k)) (decoded (memo_in known memo ws) (drop memo ws) t.rows t.frames t.now)
     going_less vs s e x =
         let y = x g.c (going_busy e) g.doing in
@@ -198,9 +200,9 @@ module _ (b : Rules) (i : Inputs) (fall : Falls b) (k : Key) (es : List Entry) w
         omega (arith, a, z, l)
 
     -- no turn made, for want of room
-    pub going_stops : (vs : List ℕ) → EndSays t None → TurnSays b i known memo t.rows t.frames t.now ws vs None → Grown known memo ws vs × ((s₀ < signs_entries (brings b i k es).kept.entries) ⊎ (length ws < memo + (65536 + 512 * (signs_entries es + signs_entries (brings b i k es).kept.entries))))
+    pub going_stops : (er : NoRoom) (vs : List ℕ) → EndSays t None → TurnSays b i (desk known memo t.rows t.frames) t.now ws vs (Err er) → Grown known memo ws vs × ((s₀ < signs_entries (brings b i k es).kept.entries) ⊎ (length ws < memo + (65536 + 512 * (signs_entries es + signs_entries (brings b i k es).kept.entries))))
     unfolding brings
-    going_stops vs e x =
+    going_stops er vs e x =
         let y = x g.c (going_busy e) g.doing in
         let z = (state_words (memo_in known memo ws) (drop memo ws) t.rows t.frames t.now g.c words.0 words.1 g.doing).0 in
         (y.0, tight_room b i fall es k g.c g.way g.others g.inner memo (t.rows + t.frames) (length ws) s₀ (spare (memo_in known memo ws)) z g.log y.1)

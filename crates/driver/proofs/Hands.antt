@@ -13,11 +13,11 @@ use Rattle.memo.specs.Log.{kept_entries}
 use Rattle.driver.specs.declared.state.Now.TheVariants.{Back}
 use Rattle.driver.specs.Rows.{Stack}
 use Rattle.driver.specs.Says.{memo_in}
-use Rattle.driver.specs.Doing.{Doing, Area, RuleSays}
+use Rattle.driver.specs.Doing.{Doing, desk, Area, RuleSays}
 use Rattle.driver.proofs.Lent.{same_memo, area_on, same_rows, same_frames, shorter, take_two, take_short}
 
 -- the first words of the row were lent, up to the last f, and are y now
-module _ (known memo r f : ℕ) (ws y : List ℕ) (area : Area ws known memo r f) (h : memo + (r + 1) + f ≤ length ws) (ly : length y ≡ length ws - f) (front : take (memo + (r + 1)) y ≡ take (memo + (r + 1)) (take (length ws - f) ws)) where
+module _ (known memo r f : ℕ) (ws y : List ℕ) (area : Area ws (desk known memo r f)) (h : memo + (r + 1) + f ≤ length ws) (ly : length y ≡ length ws - f) (front : take (memo + (r + 1)) y ≡ take (memo + (r + 1)) (take (length ws - f) ws)) where
   abbrev vs : List ℕ
   vs = y ++ drop (length ws - f) ws
 
@@ -36,7 +36,7 @@ module _ (known memo r f : ℕ) (ws y : List ℕ) (area : Area ws known memo r f
   pub hand_before : take memo vs ≡ take memo ws
   hand_before = shorter memo t vs ws (omega arith) fronts
 
-  pub hand_area : Area vs known memo r f
+  pub hand_area : Area vs (desk known memo r f)
   hand_area = area_on known memo r f r f ws vs area long hand_before area.high
 
   pub hand_turn : (a : Ans) (n : ℕ) → n ≡ length a → take n (drop t y) ≡ a → (m : Kept) (st : List Frame) → m.entries ≡ kept_entries (memo_in known memo ws) → Stack (memo_in known memo ws) (take r (drop memo ws)) (deep f (drop memo ws)) st → Doing (memo_in known memo vs) (drop memo vs) r f (Back n) (back m a st)
@@ -60,7 +60,7 @@ module _ (known memo r f : ℕ) (ws y : List ℕ) (area : Area ws known memo r f
       )
 
 -- words in the middle were lent to a rule, from its row on to the last f, and are y now
-module _ (memo r f from : ℕ) (ws y : List ℕ) (hf : from ≤ r) (h : memo + (r + f) ≤ length ws) (ly : length y ≡ length ws - f - (memo + from)) (front : take (r - from) y ≡ take (r - from) (take (length ws - f - (memo + from)) (drop (memo + from) ws))) where
+module _ (known memo r f from : ℕ) (ws y : List ℕ) (hf : from ≤ r) (h : memo + (r + f) ≤ length ws) (ly : length y ≡ length ws - f - (memo + from)) (front : take (r - from) y ≡ take (r - from) (take (length ws - f - (memo + from)) (drop (memo + from) ws))) where
   abbrev b : ℕ
   b = memo + from
 
@@ -86,7 +86,7 @@ module _ (memo r f from : ℕ) (ws y : List ℕ) (hf : from ≤ r) (h : memo + (
   pub go_behind : deep f us ≡ deep f ws
   go_behind = ap (λ n. drop (n - f) us) us_long ∙ drop-put_mid b k ws y (length ws - f) (omega arith) (omega arith) ly
 
-  pub go_says : (th : Then) (t : Turn) → GoSays th (r - from) (drop (r - from) (take k (drop b ws))) (drop (r - from) y) t → RuleSays th memo r f from ws us t
+  pub go_says : (th : Then) (t : Turn) → GoSays th (r - from) (drop (r - from) (take k (drop b ws))) (drop (r - from) y) t → RuleSays th (desk known memo r f) from ws us t
   go_says th (Ask q) x = x
   go_says th (Done n) x =
       let a = x.0 in

@@ -1,9 +1,8 @@
--- Words written into a row, and what stands in it then: Words. The keys asked and the row of answers: Asked. The memo in the whole row: Memos. A record written: Records, Stores. Turns against the machine: Turns, Looked, Calls, Tells, Rules, Returns. The work area lent: Lent, Hands.
+-- Words written into a row, and what stands in it then: Words. The keys asked and the row of answers: Asked. The memo and the work area as parts of
+-- the row: Lent. Turns against the machine: Turns, Looked, Calls, Hands, Tells, Rules, Returns, Moves. The loop: Decode, Rooms, Going. What a
+-- caller is promised: Regions.
 pub mod Words
-pub mod Memos
 pub mod Asked
-pub mod Records
-pub mod Stores
 pub mod Turns
 pub mod Lent
 pub mod Looked
@@ -16,5 +15,4 @@ pub mod Decode
 pub mod Moves
 pub mod Rooms
 pub mod Going
-pub mod Restores
 pub mod Regions

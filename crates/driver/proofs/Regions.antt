@@ -1,28 +1,18 @@
 -- The memo as a region of the row, and what a caller is promised of it: an input handed on, or what the loop over turns says.
-use Rattle.std.proofs.Common.{◌≡◌, ℕ, suc, ◌+◌, ◌-◌, ◌*◌, ◌<◌, ◌≤◌, true, ◌⊎◌, List, [], ◌∷◌, length, get_or, take, drop, Some, None, Option as Perhaps, sym, ap, ◌∙◌, subst, inl, inr, arith, le→leb}
-use Rattle.std.proofs.lemmas.List.{drop-take}
+use Rattle.std.proofs.Common.{◌≡◌, ℕ, suc, ◌+◌, ◌*◌, ◌<◌, ◌≤◌, true, ◌⊎◌, List, length, get_or, take, Some, None, Option as Perhaps, sym, ap, subst, inl, inr, arith, le→leb}
 use Rattle.engine.specs.declared.key.Key.{Key}
-use Rattle.engine.specs.Engine.{Rules, Inputs, Entry, Got, Brought, brought, bring}
-use Rattle.engine.specs.Says.{InputSays, kept, signs_gots, signs_entries, BringSays}
+use Rattle.engine.specs.Engine.{Rules, Inputs, Entry, Brought, brought, bring}
+use Rattle.engine.specs.Says.{InputSays, kept, signs_entries, BringSays}
 use Rattle.engine.specs.Theorems.{Falls, Honest}
 use Rattle.engine.proofs.Promises.{up_to_date}
 use Rattle.engine.proofs.Basics.{pick_true}
-use Rattle.memo.specs.Record.{gots_long, entries_long}
+use Rattle.memo.specs.Record.{entries_long}
 use Rattle.memo.specs.Log.{Fits, kept_entries, spare, capacity}
-use Rattle.driver.specs.Says.{memo_in}
+use Rattle.std.specs.Prelude.{Result, Ok, Err}
+use Rattle.std.specs.Result.{result_ok}
+use Rattle.memo.specs.declared.log.NoRoom.{NoRoom}
+use Rattle.memo.proofs.Rows.{signs_enough}
 use Rattle.driver.specs.Bringing.{brings, RunSays, TidySays}
-
-pub region : (known memo : ℕ) (ws : List ℕ) → known ≤ memo → drop known (take memo ws) ≡ memo_in known memo ws
-region known memo ws h = let z : memo ≡ known + (memo - known) = omega arith in ap (λ j. drop known (take j ws)) z ∙ drop-take known (memo - known) ws
-
--- entries in words are no more than their signs
-gots_less : (gs : List Got) → gots_long gs ≤ signs_gots gs
-gots_less [] = omega arith
-gots_less (g ∷ gs) = let h = gots_less gs in omega (arith, h)
-
-pub entries_less : (es : List Entry) → entries_long es ≤ signs_entries es
-entries_less [] = omega arith
-entries_less (e ∷ es) = let h = entries_less es in let g = gots_less e.gots in omega (arith, h, g)
 
 module _ (b : Rules) (i : Inputs) (k : Key) (es fs : List Entry) (c d w x : ℕ) (o o1 : List ℕ) where
   -- an input
@@ -42,20 +32,20 @@ module _ (b : Rules) (i : Inputs) (k : Key) (es fs : List Entry) (c d w x : ℕ)
 
   -- the memo couldn't be made ready
   pub tidy_says : fs ≡ es → x < entries_long es → BringSays b i k es fs c d w x o o1 None
-  tidy_says e h = let a = entries_less es in (e, inr (inr (omega (arith, a, h))))
+  tidy_says e h = let a = signs_enough es in (e, inr (inr (omega (arith, a, h))))
 
   -- the loop over turns, from a memo ws that was made ready and is vs then
-  pub run_says : (ws vs : List ℕ) (n : ℕ) → Fits ws → 4 * get_or ws 2 0 ≤ length ws → es ≡ kept_entries ws → w ≡ length ws → TidySays ws vs n true → (r : Perhaps ℕ) → RunSays b i k es fs c d (spare vs) x o1 r → BringSays b i k es fs c d w x o o1 r
+  pub run_says : (ws vs : List ℕ) (n : ℕ) → Fits ws → 4 * get_or ws 2 0 ≤ length ws → es ≡ kept_entries ws → w ≡ length ws → TidySays ws vs n (Ok tt) → (r : Result ℕ NoRoom) → RunSays b i k es fs c d (spare vs) x o1 r → BringSays b i k es fs c d w x o o1 (result_ok r)
   unfolding brings capacity
-  run_says ws vs n f few ee ew t (Some m) s = s
-  run_says ws vs n f few ee ew t None s = (s.0, elim s.1 [ inl p ↦ inr (inl (small t.1 p)) | inr p ↦ inr (inr p) ])
+  run_says ws vs n f few ee ew t (Ok m) s = s
+  run_says ws vs n f few ee ew t (Err er) s = (s.0, elim s.1 [ inl p ↦ inr (inl (small t.1 p)) | inr p ↦ inr (inr p) ])
     where
       small : (capacity ws ≤ spare vs + spare vs) ⊎ (spare vs + entries_long (kept_entries ws) ≡ capacity ws) → spare vs < signs_entries (brings b i k es).kept.entries → w < 4096 + 4 * (signs_entries es + signs_entries (brings b i k es).kept.entries)
       small (inl q) p = let g = few in let r = f.room in omega (arith, g, r, q, p, ew)
-      small (inr q) p = let g = few in let r = f.room in let l = entries_less es in let z = ap entries_long ee in omega (arith, g, r, q, p, ew, l, z)
+      small (inr q) p = let g = few in let r = f.room in let l = signs_enough es in let z = ap entries_long ee in omega (arith, g, r, q, p, ew, l, z)
 
 -- what the loop says, of equal things
-pub run_moved : (b : Rules) (i1 i : Inputs) (k : Key) (es1 es fs1 fs : List Entry) (c d s x1 x : ℕ) (o : List ℕ) (r : Perhaps ℕ) → i1 ≡ i → es1 ≡ es → fs1 ≡ fs → x1 ≡ x → RunSays b i1 k es1 fs1 c d s x1 o r → RunSays b i k es fs c d s x o r
+pub run_moved : (b : Rules) (i1 i : Inputs) (k : Key) (es1 es fs1 fs : List Entry) (c d s x1 x : ℕ) (o : List ℕ) (r : Result ℕ NoRoom) → i1 ≡ i → es1 ≡ es → fs1 ≡ fs → x1 ≡ x → RunSays b i1 k es1 fs1 c d s x1 o r → RunSays b i k es fs c d s x o r
 run_moved b i1 i k es1 es fs1 fs c d s x1 x o r ei ee ef ex h =
     subst (λ z. RunSays b i k es fs c d s z o r) ex (subst (λ z. RunSays b i k es z c d s x1 o r) ef (subst (λ z. RunSays b i k z fs1 c d s x1 o r) ee (subst (λ z. RunSays b z k es1 fs1 c d s x1 o r) ei h)))
 

@@ -6,37 +6,47 @@ use Rattle.engine.specs.Says.{row}
 use Rattle.engine.specs.Machine.{Frame, works, back, got, backed}
 use Rattle.memo.specs.Record.{deep}
 use Rattle.driver.specs.declared.state.Now.TheVariants.{Back, Tell}
-use Rattle.driver.specs.Rows.{key_words, stacked, work_words}
-use Rattle.driver.specs.Says.{Heads}
-use Rattle.driver.specs.Doing.{Doing}
+use Rattle.driver.specs.declared.stack.Head.TheVariants.{Works}
+use Rattle.driver.specs.declared.state.Told.{Told}
+use Rattle.driver.specs.Rows.{key_words, stacked, look_words, work_words}
+use Rattle.driver.specs.Says.{HeadSays}
+use Rattle.driver.specs.Doing.{Doing, asks}
 use Rattle.driver.proofs.Asked.{stacked_append, row_append}
 
 -- the first words of a frame that works
-pub record WorkHead (tag : ℕ) (key : Key) (x y : ℕ) (ws : List ℕ) (k : Key) (n from : ℕ) (q : Key) (us : List ℕ) : Type 0 where
-  pub tag1 : tag ≡ 1
-  pub key1 : key ≡ k
-  pub count : x ≡ n
-  pub from1 : y ≡ from
+pub record WorkHead (t : Told) (ws : List ℕ) (k : Key) (n from : ℕ) (q : Key) (us : List ℕ) : Type 0 where
+  pub key1 : t.key ≡ k
+  pub count : t.count ≡ n
+  pub from1 : t.from ≡ from
   pub rest : ws ≡ key_words q us
 
-pub work_head : (tag : ℕ) (key : Key) (x y z : ℕ) (fs ws : List ℕ) (k : Key) (n from : ℕ) (q : Key) (us : List ℕ) → Heads tag key x y z fs ws → fs ≡ work_words k n from q us → WorkHead tag key x y ws k n from q us
-work_head tag key x y z fs ws k n from q us h e =
-    let p : tag ∷ key_words key (x ∷ y ∷ z ∷ ws) ≡ work_words k n from q us = sym h.is ∙ e in
-    let a : key.kind ≡ k.kind = cc in
-    let b : key.a ≡ k.a = cc in
-    let c : key.b ≡ k.b = cc in
-    record { tag1 = cc; key1 = λ t. record { kind = a t; a = b t; b = c t }; count = cc; from1 = cc; rest = cc }
+pub work_head : (t : Told) (fs ws : List ℕ) (k : Key) (n from : ℕ) (q : Key) (us : List ℕ) → HeadSays (Works t) fs ws → fs ≡ work_words k n from q us → WorkHead t ws k n from q us
+work_head t fs ws k n from q us h e =
+    let p : h.0 ∷ key_words t.key (t.count ∷ t.from ∷ h.1 ∷ ws) ≡ work_words k n from q us = sym h.4 ∙ e in
+    let a : t.key.kind ≡ k.kind = cc in
+    let b : t.key.a ≡ k.a = cc in
+    let c : t.key.b ≡ k.b = cc in
+    record { key1 = λ i. record { kind = a i; a = b i; b = c i }; count = cc; from1 = cc; rest = cc }
 
-pub back_works : (ms w v : List ℕ) (r f n tag : ℕ) (key : Key) (x y z : ℕ) → Heads tag key x y z (deep f w) (deep (f - 7) w)
+-- a frame is of one sort
+pub works_no_look : (t : Told) (fs ws : List ℕ) (k : Key) (d i q : ℕ) (us : List ℕ) → HeadSays (Works t) fs ws → fs ≡ look_words k d i q us → ⊥
+works_no_look t fs ws k d i q us h e =
+    let p : h.0 ∷ key_words t.key (t.count ∷ t.from ∷ h.1 ∷ ws) ≡ look_words k d i q us = sym h.4 ∙ e in
+    h.2 (cc)
+
+pub looks_no_work : (key : Key) (x y z : ℕ) (ws : List ℕ) (k : Key) (n from : ℕ) (q : Key) (us : List ℕ) → look_words key x y z ws ≡ work_words k n from q us → ⊥
+looks_no_work key x y z ws k n from q us e = let z : ◌≡◌ {A = ℕ} 0 1 = cc in absurd (omega arith)
+
+pub back_works : (ms w v : List ℕ) (r f n : ℕ) (t : Told) → HeadSays (Works t) (deep f w) (deep (f - 7) w)
     → take (r + (1 + n)) v ≡ take r w ++ (n ∷ take n (drop (r + 1) w)) → deep (f - 7) v ≡ deep (f - 7) w
-    → (m : Kept) (a : Ans) (k : Key) (gs : List Got) (q : Key) (st : List Frame) → Doing ms w r f (Back n) (back m a (works k gs q ∷ st)) → Doing ms v (r + (1 + n)) (f - 7) (Tell key (x + 1) y) (backed m a (works k gs q ∷ st))
-back_works ms w v r f n tag key x y z h added same1 m a k gs q st d =
+    → (m : Kept) (a : Ans) (k : Key) (gs : List Got) (q : Key) (st : List Frame) → Doing ms w r f (Back n) (back m a (works k gs q ∷ st)) → Doing ms v (r + (1 + n)) (f - 7) (Tell (asks t.key (t.count + 1) t.from)) (backed m a (works k gs q ∷ st))
+back_works ms w v r f n t h added same1 m a k gs q st d =
     let s = d.4 in
     let vs = s.0 in
     let us = s.1 in
     let wk = s.2 in
     let g = got q a in
-    let hd = work_head tag key x y z (deep f w) (deep (f - 7) w) k (length gs) (length vs) q (stacked gs us) h wk.words in
+    let hd = work_head t (deep f w) (deep (f - 7) w) k (length gs) (length vs) q (stacked gs us) h wk.words in
     let el : n ≡ length a = d.0 in
     let ea : take n (drop (r + 1) w) ≡ a = d.1 in
     let c = hd.count in

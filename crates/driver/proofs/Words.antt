@@ -1,37 +1,19 @@
 -- Words written into a row: what stands there then, and what is before and behind.
-use Rattle.std.proofs.Common.{◌≡◌, ℕ, suc, ◌+◌, ◌-◌, ◌<◌, ◌≤◌, List, ◌∷◌, ◌++◌, length, get_or, take, drop, set, sym, refl, ap, ◌∙◌, append_assoc, arith, length-drop, length-set}
-use lib.Seq.{paste}
-use Rattle.std.proofs.lemmas.List.{drop_more, drop-set, drop-set-lt, drop-take, take-set, take_at, take-take, take-append-drop, length-take-le, drop-drop, drop_at}
+use Rattle.std.proofs.Common.{◌≡◌, ℕ, suc, ◌+◌, ◌-◌, ◌≤◌, List, ◌∷◌, ◌++◌, length, get_or, take, drop, set, sym, refl, ap, ◌∙◌, arith, length-set}
+use Rattle.std.proofs.lemmas.List.{drop-set, drop-set-lt, drop-take, take-set, take_at, take-take, take-append-drop, drop-drop, drop_at}
 use Rattle.memo.specs.Record.{deep, puts}
 use Rattle.memo.proofs.Puts.{length_puts, take_puts, drop_puts}
-use Rattle.driver.specs.Says.{Pushed, Heads}
+use Rattle.memo.proofs.Places.{deep_long}
+use Rattle.memo.proofs.Unpacks.{seven}
 
-pub pushed : (f : ℕ) (xs ws vs : List ℕ) → vs ≡ puts (length ws - f - length xs) xs ws → f + length xs ≤ length ws → Pushed f xs ws vs
-pushed f xs ws vs e h =
-    let i = length ws - f - length xs in
-    let long = length_puts i xs ws (omega arith) in
-    let a : length (puts i xs ws) - (f + length xs) ≡ i = omega arith in
-    let b : i + length xs ≡ length ws - f = omega arith in
-    record {
-      adds = ap (deep (f + length xs)) e ∙ ap (λ n. drop n (puts i xs ws)) a ∙ drop_puts i xs ws (omega arith) ∙ ap (λ n. xs ++ drop n ws) b;
-      below = λ m x. ap (take m) e ∙ take_puts i xs ws m (omega arith) (omega arith);
-    }
-
-on : (xs : List ℕ) (i j : ℕ) → j ≡ i + 1 → i < length xs → drop i xs ≡ get_or xs i 0 ∷ drop j xs
-on xs i j e h = drop_more xs i 0 h ∙ ap (λ n. get_or xs i 0 ∷ drop n xs) (sym e)
-
-pub heads : (f : ℕ) (ws : List ℕ) → 7 ≤ f → f ≤ length ws
-    → Heads (get_or ws (length ws - f) 0) (record { kind = get_or ws (length ws - f + 1) 0; a = get_or ws (length ws - f + 2) 0; b = get_or ws (length ws - f + 3) 0 }) (get_or ws (length ws - f + 4) 0) (get_or ws (length ws - f + 5) 0) (get_or ws (length ws - f + 6) 0) (deep f ws) (deep (f - 7) ws)
+-- the first seven words in front of the frames, and those behind them
+pub heads : (f : ℕ) (ws : List ℕ) → 7 ≤ f → f ≤ length ws → deep f ws ≡ get_or (deep f ws) 0 0 ∷ get_or (deep f ws) 1 0 ∷ get_or (deep f ws) 2 0 ∷ get_or (deep f ws) 3 0 ∷ get_or (deep f ws) 4 0 ∷ get_or (deep f ws) 5 0 ∷ get_or (deep f ws) 6 0 ∷ deep (f - 7) ws
 heads f ws l h =
-    let i = length ws - f in
-    let z : i + 7 ≡ length ws - (f - 7) = omega arith in
-    let d6 = on ws (i + 6) (i + 7) (omega arith) (omega arith) ∙ ap (λ n. get_or ws (i + 6) 0 ∷ drop n ws) z in
-    let d5 = on ws (i + 5) (i + 6) (omega arith) (omega arith) ∙ ap (λ l. get_or ws (i + 5) 0 ∷ l) d6 in
-    let d4 = on ws (i + 4) (i + 5) (omega arith) (omega arith) ∙ ap (λ l. get_or ws (i + 4) 0 ∷ l) d5 in
-    let d3 = on ws (i + 3) (i + 4) (omega arith) (omega arith) ∙ ap (λ l. get_or ws (i + 3) 0 ∷ l) d4 in
-    let d2 = on ws (i + 2) (i + 3) (omega arith) (omega arith) ∙ ap (λ l. get_or ws (i + 2) 0 ∷ l) d3 in
-    let d1 = on ws (i + 1) (i + 2) (omega arith) (omega arith) ∙ ap (λ l. get_or ws (i + 1) 0 ∷ l) d2 in
-    record { is = on ws i (i + 1) (omega arith) (omega arith) ∙ ap (λ l. get_or ws i 0 ∷ l) d1 }
+    let fs = deep f ws in
+    let long = deep_long ws f h in
+    let z : length ws - f + 7 ≡ length ws - (f - 7) = omega arith in
+    let d : drop 7 fs ≡ deep (f - 7) ws = drop-drop 7 (length ws - f) ws ∙ ap (λ n. drop n ws) z in
+    sym (take-append-drop 7 fs) ∙ (λ t. seven fs (omega arith) t ++ d t)
 
 -- what is behind a place is as it was
 deep_set : (ws : List ℕ) (r n f : ℕ) → r + 1 + f ≤ length ws → deep f (set ws r n) ≡ deep f ws
@@ -82,22 +64,3 @@ placed t xs ws vs e h =
       below = ap (take t) e ∙ take_puts t xs ws t (omega arith) h;
       above = λ f x. ap (deep f) e ∙ deep_past t xs ws f x;
     }
-
--- n words from p on copied to t
-pub pasted : (ws vs : List ℕ) (p t n m : ℕ) → m ≡ n → vs ≡ paste ws t (drop p ws) m → p + n ≤ length ws → vs ≡ puts t (take n (drop p ws)) ws
-pasted ws vs p t n m em e h =
-    let l = length-drop p ws in
-    let long : length (take n (drop p ws)) ≡ n = length-take-le n (drop p ws) (omega arith) in
-    e ∙ ap (λ j. paste ws t (drop p ws) j) em ∙ append_assoc (take t ws) (take n (drop p ws)) (drop (t + n) ws) ∙ ap (λ j. take t ws ++ (take n (drop p ws) ++ drop (t + j) ws)) (sym long)
-
-pub record Copied (ws vs : List ℕ) (p t n : ℕ) : Type 0 where
-  pub is : take n (drop t vs) ≡ take n (drop p ws)
-  pub below : take t vs ≡ take t ws
-  pub above : (f : ℕ) → t + n + f ≤ length ws → deep f vs ≡ deep f ws
-
-pub copied : (ws vs : List ℕ) (p t n m : ℕ) → m ≡ n → vs ≡ paste ws t (drop p ws) m → p + n ≤ length ws → t + n ≤ length ws → Copied ws vs p t n
-copied ws vs p t n m em e h k =
-    let l = length-drop p ws in
-    let long : length (take n (drop p ws)) ≡ n = length-take-le n (drop p ws) (omega arith) in
-    let x = placed t (take n (drop p ws)) ws vs (pasted ws vs p t n m em e h) (omega arith) in
-    record { is = ap (λ j. take j (drop t vs)) (sym long) ∙ x.is; below = x.below; above = λ f y. x.above f (omega arith) }

@@ -1,6 +1,6 @@
 -- What the words and the state between turns stand for, as a state of the machine. ms is the memo, w the work area, with r words of rows
 -- and f words of frames.
-use Rattle.std.specs.Prelude.{◌≡◌, ℕ, ◌+◌, ◌-◌, ◌*◌, ◌<◌, ◌≤◌, ◌⊎◌, List, [], ◌∷◌, length, take, drop, Some, None, Option as Perhaps, slice_index}
+use Rattle.std.specs.Prelude.{◌≡◌, ℕ, ◌+◌, ◌-◌, ◌*◌, ◌<◌, ◌≤◌, ◌⊎◌, List, ◌∷◌, length, take, drop, Result, Ok, Err, slice_index}
 use Rattle.std.proofs.Math.Option.{some}
 use Rattle.engine.specs.declared.key.Key.{Key}
 use Rattle.engine.specs.Engine.{Ans, Then, ask, done, Rules, answers, Kept, Entry, Got, find}
@@ -11,6 +11,9 @@ use Rattle.engine.specs.Machine.{Frame, looks, works, State, call, back, tell, l
 use Rattle.memo.specs.Record.{deep, entry_long, made}
 use Rattle.memo.specs.Log.{Fits, kept_entries, entry_at, spare}
 use Rattle.memo.specs.Says.{Keeps}
+use Rattle.memo.specs.declared.log.NoRoom.{NoRoom}
+use Rattle.driver.specs.declared.state.Told.{Told}
+use Rattle.driver.specs.declared.state.Desk.{Desk}
 use Rattle.driver.specs.declared.state.Now.{Now}
 use Rattle.driver.specs.declared.state.At.{At}
 use Rattle.driver.specs.declared.state.Now.TheVariants.{Call, Back, Tell}
@@ -26,36 +29,43 @@ Doing ms w r f (Call k) (tell m j gs st) = ⊥
 Doing ms w r f (Back n) (call m j st) = ⊥
 Doing ms w r f (Back n) (back m a st) = (n ≡ length a) × (take n (drop (r + 1) w) ≡ a) × (r + 1 + n + f ≤ length w) × (m.entries ≡ kept_entries ms) × Stack ms (take r w) (deep f w) st
 Doing ms w r f (Back n) (tell m j gs st) = ⊥
-Doing ms w r f (Tell k n from) (call m j st) = ⊥
-Doing ms w r f (Tell k n from) (back m a st) = ⊥
-Doing ms w r f (Tell k n from) (tell m j gs st) = (k ≡ j) × (n ≡ length gs) × (m.entries ≡ kept_entries ms) × Telling ms (take r w) (deep f w) from gs st
+Doing ms w r f (Tell t) (call m j st) = ⊥
+Doing ms w r f (Tell t) (back m a st) = ⊥
+Doing ms w r f (Tell t) (tell m j gs st) = (t.key ≡ j) × (t.count ≡ length gs) × (m.entries ≡ kept_entries ms) × Telling ms (take r w) (deep f w) t.from gs st
 
--- the row is in order: inputs up to known, the memo up to memo, and r words of rows and f words of frames in the work area
-pub record Area (ws : List ℕ) (known memo r f : ℕ) : Type 0 where
-  pub low : known ≤ memo
-  pub high : memo + (r + f) ≤ length ws
+-- where things stand in a row, and a rule that is to be told, by their numbers
+abbrev pub desk : ℕ → ℕ → ℕ → ℕ → Desk
+desk known memo r f = record { known = known; memo = memo; rows = r; frames = f }
+
+abbrev pub asks : Key → ℕ → ℕ → Told
+asks k n from = record { key = k; count = n; from = from }
+
+-- the row is in order: inputs up to known, the memo up to memo, and the words of rows and of frames in the work area
+pub record Area (ws : List ℕ) (s : Desk) : Type 0 where
+  pub low : s.known ≤ s.memo
+  pub high : s.memo + (s.rows + s.frames) ≤ length ws
   pub small : length ws < 4294967296
-  pub fits : Fits (memo_in known memo ws)
+  pub fits : Fits (memo_in s.known s.memo ws)
 
 -- a key's entry at the depth d looked at from its i-th question on: where the machine stands then; or there was too little room
-abbrev pub LookSays : ℕ → ℕ → ℕ → ℕ → Key → ℕ → ℕ → List ℕ → List ℕ → Perhaps At → Type 0
-LookSays known memo r f k d i ws vs (Some t) = Area vs known memo t.rows t.frames × (take memo vs ≡ take memo ws) × ((m : Kept) (e : Entry) (gs : List Got) (st : List Frame) → entry_at (memo_in known memo ws) d ≡ e → drop i e.gots ≡ gs → m.entries ≡ kept_entries (memo_in known memo ws) → Stack (memo_in known memo ws) (take r (drop memo ws)) (deep f (drop memo ws)) st → Doing (memo_in known memo vs) (drop memo vs) t.rows t.frames t.now (look m k e gs st))
-LookSays known memo r f k d i ws vs None = (take memo vs ≡ take memo ws) × (length ws < memo + (r + f) + (7 + length (entry_at (memo_in known memo ws) d).ans))
+abbrev pub LookSays : Desk → Key → ℕ → ℕ → List ℕ → List ℕ → Result At NoRoom → Type 0
+LookSays s k d i ws vs (Ok t) = Area vs (desk s.known s.memo t.rows t.frames) × (take s.memo vs ≡ take s.memo ws) × ((m : Kept) (e : Entry) (gs : List Got) (st : List Frame) → entry_at (memo_in s.known s.memo ws) d ≡ e → drop i e.gots ≡ gs → m.entries ≡ kept_entries (memo_in s.known s.memo ws) → Stack (memo_in s.known s.memo ws) (take s.rows (drop s.memo ws)) (deep s.frames (drop s.memo ws)) st → Doing (memo_in s.known s.memo vs) (drop s.memo vs) t.rows t.frames t.now (look m k e gs st))
+LookSays s k d i ws vs (Err x) = (take s.memo vs ≡ take s.memo ws) × (length ws < s.memo + (s.rows + s.frames) + (7 + length (entry_at (memo_in s.known s.memo ws) d).ans))
 
 -- a key that is no input is to be brought: where the machine stands then; or its entry's answer doesn't go in
-abbrev pub CallSays : ℕ → ℕ → ℕ → ℕ → Key → List ℕ → List ℕ → Perhaps At → Type 0
-CallSays known memo r f k ws vs (Some t) = Area vs known memo t.rows t.frames × (take memo vs ≡ take memo ws) × ((m : Kept) (st : List Frame) → m.entries ≡ kept_entries (memo_in known memo ws) → Stack (memo_in known memo ws) (take r (drop memo ws)) (deep f (drop memo ws)) st → Doing (memo_in known memo vs) (drop memo vs) t.rows t.frames t.now (called m k st (find m.entries k)))
-CallSays known memo r f k ws vs None = (take memo vs ≡ take memo ws) × (e : Entry) × (find (kept_entries (memo_in known memo ws)) k ≡ some e) × (length ws < memo + (r + f) + (7 + length e.ans))
+abbrev pub CallSays : Desk → Key → List ℕ → List ℕ → Result At NoRoom → Type 0
+CallSays s k ws vs (Ok t) = Area vs (desk s.known s.memo t.rows t.frames) × (take s.memo vs ≡ take s.memo ws) × ((m : Kept) (st : List Frame) → m.entries ≡ kept_entries (memo_in s.known s.memo ws) → Stack (memo_in s.known s.memo ws) (take s.rows (drop s.memo ws)) (deep s.frames (drop s.memo ws)) st → Doing (memo_in s.known s.memo vs) (drop s.memo vs) t.rows t.frames t.now (called m k st (find m.entries k)))
+CallSays s k ws vs (Err x) = (take s.memo vs ≡ take s.memo ws) × (e : Entry) × (find (kept_entries (memo_in s.known s.memo ws)) k ≡ some e) × (length ws < s.memo + (s.rows + s.frames) + (7 + length e.ans))
 
 -- an answer of n words comes back to a frame that looks
-abbrev pub BackSays : ℕ → ℕ → ℕ → ℕ → ℕ → List ℕ → List ℕ → Perhaps At → Type 0
-BackSays known memo r f n ws vs (Some t) = Area vs known memo t.rows t.frames × (take memo vs ≡ take memo ws) × ((m : Kept) (a : Ans) (k : Key) (e : Entry) (g : Got) (gs : List Got) (st : List Frame) → Doing (memo_in known memo ws) (drop memo ws) r f (Back n) (back m a (looks k e g gs ∷ st)) → Doing (memo_in known memo vs) (drop memo vs) t.rows t.frames t.now (backed m a (looks k e g gs ∷ st)))
-BackSays known memo r f n ws vs None = (take memo vs ≡ take memo ws) × ((m : Kept) (a : Ans) (k : Key) (e : Entry) (g : Got) (gs : List Got) (st : List Frame) → Doing (memo_in known memo ws) (drop memo ws) r f (Back n) (back m a (looks k e g gs ∷ st)) → length ws < memo + (r + f) + (7 + length e.ans))
+abbrev pub BackSays : Desk → ℕ → List ℕ → List ℕ → Result At NoRoom → Type 0
+BackSays s n ws vs (Ok t) = Area vs (desk s.known s.memo t.rows t.frames) × (take s.memo vs ≡ take s.memo ws) × ((m : Kept) (a : Ans) (k : Key) (e : Entry) (g : Got) (gs : List Got) (st : List Frame) → Doing (memo_in s.known s.memo ws) (drop s.memo ws) s.rows s.frames (Back n) (back m a (looks k e g gs ∷ st)) → Doing (memo_in s.known s.memo vs) (drop s.memo vs) t.rows t.frames t.now (backed m a (looks k e g gs ∷ st)))
+BackSays s n ws vs (Err x) = (take s.memo vs ≡ take s.memo ws) × ((m : Kept) (a : Ans) (k : Key) (e : Entry) (g : Got) (gs : List Got) (st : List Frame) → Doing (memo_in s.known s.memo ws) (drop s.memo ws) s.rows s.frames (Back n) (back m a (looks k e g gs ∷ st)) → length ws < s.memo + (s.rows + s.frames) + (7 + length e.ans))
 
 -- a rule asks q
-abbrev pub AskSays : ℕ → ℕ → ℕ → ℕ → Key → ℕ → ℕ → Key → List ℕ → List ℕ → Perhaps At → Type 0
-AskSays known memo r f k n from q ws vs (Some t) = Area vs known memo t.rows t.frames × (take memo vs ≡ take memo ws) × ((m : Kept) (gs : List Got) (st : List Frame) → Doing (memo_in known memo ws) (drop memo ws) r f (Tell k n from) (tell m k gs st) → Doing (memo_in known memo vs) (drop memo vs) t.rows t.frames t.now (told m k gs st (ask q)))
-AskSays known memo r f k n from q ws vs None = (take memo vs ≡ take memo ws) × (length ws < memo + (r + f) + 10)
+abbrev pub AskSays : Desk → Told → Key → List ℕ → List ℕ → Result At NoRoom → Type 0
+AskSays s p q ws vs (Ok t) = Area vs (desk s.known s.memo t.rows t.frames) × (take s.memo vs ≡ take s.memo ws) × ((m : Kept) (gs : List Got) (st : List Frame) → Doing (memo_in s.known s.memo ws) (drop s.memo ws) s.rows s.frames (Tell p) (tell m p.key gs st) → Doing (memo_in s.known s.memo vs) (drop s.memo vs) t.rows t.frames t.now (told m p.key gs st (ask q)))
+AskSays s p q ws vs (Err x) = (take s.memo vs ≡ take s.memo ws) × (length ws < s.memo + (s.rows + s.frames) + 10)
 
 -- the memo holds more, or as much; what is before it stays
 pub record Grown (known memo : ℕ) (ws vs : List ℕ) : Type 0 where
@@ -66,27 +76,22 @@ pub record Grown (known memo : ℕ) (ws vs : List ℕ) : Type 0 where
 
 -- a rule is done, with the answer a of n words behind its row: where the machine stands then; or there was too little room in the memo,
 -- or to work in
-abbrev pub DoneSays : ℕ → ℕ → ℕ → ℕ → Key → ℕ → ℕ → ℕ → List ℕ → List ℕ → Perhaps At → Type 0
-DoneSays known memo r f k n from len ws vs (Some t) = (m : Kept) (gs : List Got) (st : List Frame) → Doing (memo_in known memo ws) (drop memo ws) r f (Tell k n from) (tell m k gs st) →
-    Area vs known memo t.rows t.frames × Grown known memo ws vs × Doing (memo_in known memo vs) (drop memo vs) t.rows t.frames t.now (told m k gs st (done (take len (drop (memo + r) ws)))) × (spare (memo_in known memo ws) ≡ entry_long (made k (take len (drop (memo + r) ws)) gs) + spare (memo_in known memo vs))
-DoneSays known memo r f k n from len ws vs None = (m : Kept) (gs : List Got) (st : List Frame) → Doing (memo_in known memo ws) (drop memo ws) r f (Tell k n from) (tell m k gs st) →
-    Grown known memo ws vs × ((spare (memo_in known memo ws) < entry_long (made k (take len (drop (memo + r) ws)) gs)) ⊎ (length ws < memo + (from + (1 + (len + f)))))
+abbrev pub DoneSays : Desk → Told → ℕ → List ℕ → List ℕ → Result At NoRoom → Type 0
+DoneSays s q len ws vs (Ok t) = (m : Kept) (gs : List Got) (st : List Frame) → Doing (memo_in s.known s.memo ws) (drop s.memo ws) s.rows s.frames (Tell q) (tell m q.key gs st) →
+    Area vs (desk s.known s.memo t.rows t.frames) × Grown s.known s.memo ws vs × Doing (memo_in s.known s.memo vs) (drop s.memo vs) t.rows t.frames t.now (told m q.key gs st (done (take len (drop (s.memo + s.rows) ws)))) × (spare (memo_in s.known s.memo ws) ≡ entry_long (made q.key (take len (drop (s.memo + s.rows) ws)) gs) + spare (memo_in s.known s.memo vs))
+DoneSays s q len ws vs (Err x) = (m : Kept) (gs : List Got) (st : List Frame) → Doing (memo_in s.known s.memo ws) (drop s.memo ws) s.rows s.frames (Tell q) (tell m q.key gs st) →
+    Grown s.known s.memo ws vs × ((spare (memo_in s.known s.memo ws) < entry_long (made q.key (take len (drop (s.memo + s.rows) ws)) gs)) ⊎ (length ws < s.memo + (q.from + (1 + (len + s.frames)))))
 
 -- an input's answer a handed on: where the machine stands then; or it doesn't go in
-abbrev pub HandSays : ℕ → ℕ → ℕ → ℕ → Ans → List ℕ → List ℕ → Perhaps At → Type 0
-HandSays known memo r f a ws vs (Some t) = Area vs known memo t.rows t.frames × (take memo vs ≡ take memo ws) × ((m : Kept) (st : List Frame) → m.entries ≡ kept_entries (memo_in known memo ws) → Stack (memo_in known memo ws) (take r (drop memo ws)) (deep f (drop memo ws)) st → Doing (memo_in known memo vs) (drop memo vs) t.rows t.frames t.now (back m a st))
-HandSays known memo r f a ws vs None = (take memo vs ≡ take memo ws) × (length ws < memo + (r + f) + (1 + length a))
+abbrev pub HandSays : Desk → Ans → List ℕ → List ℕ → Result At NoRoom → Type 0
+HandSays s a ws vs (Ok t) = Area vs (desk s.known s.memo t.rows t.frames) × (take s.memo vs ≡ take s.memo ws) × ((m : Kept) (st : List Frame) → m.entries ≡ kept_entries (memo_in s.known s.memo ws) → Stack (memo_in s.known s.memo ws) (take s.rows (drop s.memo ws)) (deep s.frames (drop s.memo ws)) st → Doing (memo_in s.known s.memo vs) (drop s.memo vs) t.rows t.frames t.now (back m a st))
+HandSays s a ws vs (Err x) = (take s.memo vs ≡ take s.memo ws) × (length ws < s.memo + (s.rows + s.frames) + (1 + length a))
 
 -- a rule is told what it got: it does t next. Its row begins at a word of the work area
-abbrev pub RuleSays : Then → ℕ → ℕ → ℕ → ℕ → List ℕ → List ℕ → Turn → Type 0
-RuleSays t memo r f from ws vs (Ask q) = t ≡ ask q
-RuleSays t memo r f from ws vs (Done n) = (t ≡ done (take n (drop (memo + r) vs))) × (memo + (r + (n + f)) ≤ length ws)
-RuleSays t memo r f from ws vs Narrow = length ws < memo + (r + f) + (4096 + 256 * (r - from + answer_long t))
-
--- the answer of a rule that is done
-abbrev pub answer_of : Then → Ans
-answer_of (ask k) = []
-answer_of (done a) = a
+abbrev pub RuleSays : Then → Desk → ℕ → List ℕ → List ℕ → Turn → Type 0
+RuleSays t s from ws vs (Ask q) = t ≡ ask q
+RuleSays t s from ws vs (Done n) = (t ≡ done (take n (drop (s.memo + s.rows) vs))) × (s.memo + (s.rows + (n + s.frames)) ≤ length ws)
+RuleSays t s from ws vs Narrow = length ws < s.memo + (s.rows + s.frames) + (4096 + 256 * (s.rows - from + answer_long t))
 
 -- how many words a rule that does t next puts into the memo
 abbrev pub stored_long : Key → List Got → Then → ℕ
@@ -94,13 +99,13 @@ stored_long k gs (ask q) = 0
 stored_long k gs (done a) = entry_long (made k a gs)
 
 -- the rule of k is told what it got: where the machine stands then; or there was too little room, by what the rule does next
-abbrev pub Short : ℕ → ℕ → ℕ → ℕ → Key → ℕ → List Got → Then → List ℕ → Type 0
-Short known memo r f k from gs t ws = (length ws < memo + (r + f) + (4096 + 256 * (r - from + answer_long t))) ⊎ ((a : Ans) × (t ≡ done a) × (spare (memo_in known memo ws) < entry_long (made k a gs)))
+abbrev pub Short : Desk → Key → ℕ → List Got → Then → List ℕ → Type 0
+Short s k from gs t ws = (length ws < s.memo + (s.rows + s.frames) + (4096 + 256 * (s.rows - from + answer_long t))) ⊎ ((a : Ans) × (t ≡ done a) × (spare (memo_in s.known s.memo ws) < entry_long (made k a gs)))
 
-abbrev pub TellSays : Rules → ℕ → ℕ → ℕ → ℕ → Key → ℕ → ℕ → List ℕ → List ℕ → Perhaps At → Type 0
-TellSays b known memo r f k n from ws vs (Some t) = (m : Kept) (gs : List Got) (st : List Frame) → Doing (memo_in known memo ws) (drop memo ws) r f (Tell k n from) (tell m k gs st) →
-    Area vs known memo t.rows t.frames × Grown known memo ws vs × Doing (memo_in known memo vs) (drop memo vs) t.rows t.frames t.now (told m k gs st (b.next k (answers gs))) × (spare (memo_in known memo ws) ≡ stored_long k gs (b.next k (answers gs)) + spare (memo_in known memo vs))
-TellSays b known memo r f k n from ws vs None = (m : Kept) (gs : List Got) (st : List Frame) → Doing (memo_in known memo ws) (drop memo ws) r f (Tell k n from) (tell m k gs st) → Grown known memo ws vs × Short known memo r f k from gs (b.next k (answers gs)) ws
+abbrev pub TellSays : Rules → Desk → Told → List ℕ → List ℕ → Result At NoRoom → Type 0
+TellSays b s q ws vs (Ok t) = (m : Kept) (gs : List Got) (st : List Frame) → Doing (memo_in s.known s.memo ws) (drop s.memo ws) s.rows s.frames (Tell q) (tell m q.key gs st) →
+    Area vs (desk s.known s.memo t.rows t.frames) × Grown s.known s.memo ws vs × Doing (memo_in s.known s.memo vs) (drop s.memo vs) t.rows t.frames t.now (told m q.key gs st (b.next q.key (answers gs))) × (spare (memo_in s.known s.memo ws) ≡ stored_long q.key gs (b.next q.key (answers gs)) + spare (memo_in s.known s.memo vs))
+TellSays b s q ws vs (Err x) = (m : Kept) (gs : List Got) (st : List Frame) → Doing (memo_in s.known s.memo ws) (drop s.memo ws) s.rows s.frames (Tell q) (tell m q.key gs st) → Grown s.known s.memo ws vs × Short s q.key q.from gs (b.next q.key (answers gs)) ws
 
 -- the answer that a frame may have to hand on
 abbrev pub look_long : Frame → ℕ
@@ -108,6 +113,6 @@ look_long (looks k e g gs) = length e.ans
 look_long (works k gs q) = 0
 
 -- an answer of n words comes back to the newest frame
-abbrev pub ReturnSays : ℕ → ℕ → ℕ → ℕ → ℕ → List ℕ → List ℕ → Perhaps At → Type 0
-ReturnSays known memo r f n ws vs (Some t) = Area vs known memo t.rows t.frames × (take memo vs ≡ take memo ws) × ((m : Kept) (a : Ans) (fr : Frame) (st : List Frame) → Doing (memo_in known memo ws) (drop memo ws) r f (Back n) (back m a (fr ∷ st)) → Doing (memo_in known memo vs) (drop memo vs) t.rows t.frames t.now (backed m a (fr ∷ st)))
-ReturnSays known memo r f n ws vs None = (take memo vs ≡ take memo ws) × ((m : Kept) (a : Ans) (fr : Frame) (st : List Frame) → Doing (memo_in known memo ws) (drop memo ws) r f (Back n) (back m a (fr ∷ st)) → length ws < memo + (r + f) + (7 + look_long fr))
+abbrev pub ReturnSays : Desk → ℕ → List ℕ → List ℕ → Result At NoRoom → Type 0
+ReturnSays s n ws vs (Ok t) = Area vs (desk s.known s.memo t.rows t.frames) × (take s.memo vs ≡ take s.memo ws) × ((m : Kept) (a : Ans) (fr : Frame) (st : List Frame) → Doing (memo_in s.known s.memo ws) (drop s.memo ws) s.rows s.frames (Back n) (back m a (fr ∷ st)) → Doing (memo_in s.known s.memo vs) (drop s.memo vs) t.rows t.frames t.now (backed m a (fr ∷ st)))
+ReturnSays s n ws vs (Err x) = (take s.memo vs ≡ take s.memo ws) × ((m : Kept) (a : Ans) (fr : Frame) (st : List Frame) → Doing (memo_in s.known s.memo ws) (drop s.memo ws) s.rows s.frames (Back n) (back m a (fr ∷ st)) → length ws < s.memo + (s.rows + s.frames) + (7 + look_long fr))

@@ -1,41 +1,53 @@
 -- What the functions of the work area promise. ws is the row before, vs the row after.
-use Rattle.std.specs.Prelude.{◌≡◌, ℕ, ◌+◌, ◌-◌, ◌<◌, ◌≤◌, Bool, List, ◌∷◌, ◌++◌, length, take, drop, Some, None, Option as Perhaps, slice_index}
+use Rattle.std.specs.Prelude.{◌≡◌, ℕ, ◌+◌, ◌-◌, ◌<◌, ◌≤◌, true, false, List, ◌∷◌, ◌++◌, length, take, drop, Result, Ok, Err, ⊤, Some, None, Option as Perhaps, slice_index, ◌≢◌}
 use Rattle.base.specs.Base.{same}
 use Rattle.engine.specs.Engine.{Ans, Got, Entry}
+use Rattle.memo.specs.declared.log.NoRoom.{NoRoom}
+use Rattle.memo.specs.declared.entry.Cursor.{Cursor}
 use Rattle.memo.specs.Log.{Fits, entry_at}
 use Rattle.memo.specs.Says.{Looks, Keeps, StoreSays}
-use Rattle.engine.specs.declared.key.Key.{Key}
 use Rattle.memo.specs.Record.{deep}
-use Rattle.driver.specs.Rows.{key_words}
+use Rattle.driver.specs.declared.stack.Head.{Head}
+use Rattle.driver.specs.declared.stack.Head.TheVariants.{Looks as LooksAt, Works}
+use Rattle.driver.specs.declared.state.Desk.{Desk}
+use Rattle.driver.specs.Rows.{key_words, look_words}
 
 -- words put in front of the last f: what is before them stays
 pub record Pushed (f : ℕ) (xs ws vs : List ℕ) : Type 0 where
   pub adds : deep (f + length xs) vs ≡ xs ++ deep f ws
   pub below : (m : ℕ) → m + (f + length xs) ≤ length ws → take m vs ≡ take m ws
 
--- a frame's first seven words
-pub record Heads (tag : ℕ) (k : Key) (x y z : ℕ) (ws us : List ℕ) : Type 0 where
-  pub is : ws ≡ tag ∷ key_words k (x ∷ y ∷ z ∷ us)
+-- a frame's first words in front of others, and that they are words
+abbrev pub head_words : Head → List ℕ → List ℕ
+head_words (LooksAt k d c) us = look_words k d c.index c.place us
+head_words (Works t) us = 1 ∷ key_words t.key (t.count ∷ t.from ∷ 0 ∷ us)
+
+abbrev pub HeadFits : Head → Type 0
+HeadFits (LooksAt k d c) = (d < 4294967296) × (c.index < 4294967296) × (c.place < 4294967296)
+HeadFits (Works t) = (t.count < 4294967296) × (t.from < 4294967296)
+
+-- the first words of fs are a frame's, and us is behind them
+abbrev pub HeadSays : Head → List ℕ → List ℕ → Type 0
+HeadSays (LooksAt k d c) fs us = fs ≡ look_words k d c.index c.place us
+HeadSays (Works t) fs us = (tag : ℕ) × (z : ℕ) × (tag ≢ 0) × (t.count < 4294967296) × (fs ≡ tag ∷ key_words t.key (t.count ∷ t.from ∷ z ∷ us))
 
 -- the memo in the whole row
 abbrev pub memo_in : ℕ → ℕ → List ℕ → List ℕ
 memo_in known memo ws = take (memo - known) (drop known ws)
 
--- an entry's answer a copied to the place t, which is before end; or it doesn't go in there
-abbrev pub CopySays : Ans → ℕ → ℕ → List ℕ → Perhaps ℕ → Type 0
-CopySays a t end vs (Some n) = (n ≡ length a) × (take n (drop t vs) ≡ a) × (t + n ≤ end)
-CopySays a t end vs None = end < t + length a
+-- an entry's answer a copied one word behind the newest row; or it doesn't go in before the frames
+abbrev pub CopySays : Desk → Ans → List ℕ → List ℕ → Result ℕ NoRoom → Type 0
+CopySays s a ws vs (Ok n) = (n ≡ length a) × (take n (drop (s.rows + 1) (drop s.memo vs)) ≡ a) × (s.rows + 1 + n + s.frames ≤ length (drop s.memo vs)) × (length vs ≡ length ws) × (take s.memo vs ≡ take s.memo ws) × (take s.rows (drop s.memo vs) ≡ take s.rows (drop s.memo ws)) × (deep s.frames (drop s.memo vs) ≡ deep s.frames (drop s.memo ws))
+CopySays s a ws vs (Err x) = (take s.memo vs ≡ take s.memo ws) × (length ws < s.memo + (s.rows + s.frames) + (1 + length a))
 
--- an answer a against the i-th thing that the entry at the depth d asked, and where the next stands
-pub record CompareSays (ms : List ℕ) (d i : ℕ) (a : Ans) (r : Bool) (next : ℕ) : Type 0 where
-  pub is : (g : Got) (gs : List Got) → drop i (entry_at ms d).gots ≡ g ∷ gs → (r ≡ same a g.ans) × (drop (i + 1) (entry_at ms d).gots ≡ gs)
-  pub looks : Looks ms d (i + 1) next
+-- an answer a against the i-th thing that the entry at the depth d asked: it is the one that the entry got, and here the next stands
+abbrev pub CompareSays : List ℕ → ℕ → ℕ → Ans → Perhaps Cursor → Type 0
+CompareSays ms d i a (Some c) = Looks ms d c.index c.place × (c.index ≡ i + 1) × ((g : Got) (gs : List Got) → drop i (entry_at ms d).gots ≡ g ∷ gs → (same a g.ans ≡ true) × (drop (i + 1) (entry_at ms d).gots ≡ gs))
+CompareSays ms d i a None = (g : Got) (gs : List Got) → drop i (entry_at ms d).gots ≡ g ∷ gs → same a g.ans ≡ false
 
--- an entry stored in the memo, or not, by too little room: what is before the memo and what is behind it stays
-pub record StoredIn (known memo : ℕ) (e : Entry) (ws vs : List ℕ) (r : Bool) : Type 0 where
-  pub fits : Fits (memo_in known memo vs)
-  pub says : StoreSays e (memo_in known memo ws) (memo_in known memo vs) r
-  pub keeps : Keeps (memo_in known memo ws) (memo_in known memo vs)
-  pub buckets : slice_index (memo_in known memo vs) 2 ≡ slice_index (memo_in known memo ws) 2
-  pub before : take known vs ≡ take known ws
-  pub behind : drop memo vs ≡ drop memo ws
+-- an entry stored in the memo, or not, by too little room
+pub record StoredSays (e : Entry) (ms ns : List ℕ) (r : Result ⊤ NoRoom) : Type 0 where
+  pub fits : Fits ns
+  pub says : StoreSays e ms ns r
+  pub keeps : Keeps ms ns
+  pub buckets : slice_index ns 2 ≡ slice_index ms 2

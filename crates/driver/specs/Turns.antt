@@ -1,22 +1,24 @@
 -- One turn of the machine in words, whatever is next: it is the machine's, or there was too little room for it (Tight).
-use Rattle.std.specs.Prelude.{◌≡◌, ℕ, ◌+◌, ◌*◌, ◌<◌, true, ◌⊎◌, List, [], ◌∷◌, length, drop, Some, None, Option as Perhaps}
+use Rattle.std.specs.Prelude.{◌≡◌, ℕ, ◌+◌, ◌*◌, ◌<◌, true, ◌⊎◌, List, [], ◌∷◌, length, drop, Result, Ok, Err}
 use Rattle.std.proofs.Math.Option.{some}
 use Rattle.engine.specs.Engine.{Ans, done, Rules, Inputs, Entry, answers, find}
 use Rattle.engine.specs.Says.{row, answer_long}
 use Rattle.engine.specs.Machine.{State, call, back, tell, Busy, turn}
 use Rattle.memo.specs.Record.{entry_long, made}
 use Rattle.memo.specs.Log.{spare}
+use Rattle.memo.specs.declared.log.NoRoom.{NoRoom}
+use Rattle.driver.specs.declared.state.Desk.{Desk}
 use Rattle.driver.specs.declared.state.Now.{Now}
 use Rattle.driver.specs.declared.state.Now.TheVariants.{Call, Back, Tell}
 use Rattle.driver.specs.declared.state.At.{At}
 use Rattle.driver.specs.Says.{memo_in}
-use Rattle.driver.specs.Doing.{Doing, Area, Grown, stored_long, look_long}
+use Rattle.driver.specs.Doing.{Doing, desk, Area, Grown, stored_long, look_long}
 
 -- how often a rule is told in a turn
 abbrev pub tellings : Now → ℕ
 tellings (Call k) = 0
 tellings (Back n) = 0
-tellings (Tell k n from) = 1
+tellings (Tell t) = 1
 
 -- how many words a turn puts into the memo
 abbrev pub added : Rules → State → ℕ
@@ -32,7 +34,7 @@ Tight b i x y s (back m a (fr ∷ st)) = x < y + (7 + look_long fr)
 Tight b i x y s (tell m k gs st) = (x < y + (4096 + 256 * (length (row (answers gs)) + answer_long (b.next k (answers gs))))) ⊎ ((a : Ans) × (b.next k (answers gs) ≡ done a) × (s < entry_long (made k a gs)))
 
 -- a turn from a state that these words stand for
-abbrev pub TurnSays : Rules → Inputs → ℕ → ℕ → ℕ → ℕ → Now → List ℕ → List ℕ → Perhaps At → Type 0
-TurnSays b i known memo r f n ws vs (Some t) = (c : State) → Busy c → Doing (memo_in known memo ws) (drop memo ws) r f n c →
-    Area vs known memo t.rows t.frames × Grown known memo ws vs × Doing (memo_in known memo vs) (drop memo vs) t.rows t.frames t.now (turn b i c) × (spare (memo_in known memo ws) ≡ added b c + spare (memo_in known memo vs))
-TurnSays b i known memo r f n ws vs None = (c : State) → Busy c → Doing (memo_in known memo ws) (drop memo ws) r f n c → Grown known memo ws vs × Tight b i (length ws) (memo + (r + f)) (spare (memo_in known memo ws)) c
+abbrev pub TurnSays : Rules → Inputs → Desk → Now → List ℕ → List ℕ → Result At NoRoom → Type 0
+TurnSays b i s n ws vs (Ok t) = (c : State) → Busy c → Doing (memo_in s.known s.memo ws) (drop s.memo ws) s.rows s.frames n c →
+    Area vs (desk s.known s.memo t.rows t.frames) × Grown s.known s.memo ws vs × Doing (memo_in s.known s.memo vs) (drop s.memo vs) t.rows t.frames t.now (turn b i c) × (spare (memo_in s.known s.memo ws) ≡ added b c + spare (memo_in s.known s.memo vs))
+TurnSays b i s n ws vs (Err x) = (c : State) → Busy c → Doing (memo_in s.known s.memo ws) (drop s.memo ws) s.rows s.frames n c → Grown s.known s.memo ws vs × Tight b i (length ws) (s.memo + (s.rows + s.frames)) (spare (memo_in s.known s.memo ws)) c

@@ -5,8 +5,7 @@ ghost use Rattle.engine.specs.Theorems.{Falls, Honest};
 ghost use Rattle.memo.specs.Log.{kept_entries};
 ghost use Rattle.memo.specs.Whether.{memo_ready};
 
-use crate::repack::tidy;
-use crate::run::run;
+use crate::state::Desk;
 use engine::key::Key;
 use engine::rules::{Inputs, Rules};
 
@@ -36,8 +35,12 @@ pub fn bring<R: Rules, I: Inputs>(
     if rules.is_input(k) {
         return inputs.get(k, mem, known, memo);
     }
-    if !tidy(mem, known, memo) {
-        return None;
-    }
-    run(mem, known, memo, rules, inputs, k)
+    let desk = Desk {
+        known,
+        memo,
+        rows: 0,
+        frames: 0,
+    };
+    desk.tidy(mem).ok()?;
+    desk.run(mem, rules, inputs, k).ok()
 }

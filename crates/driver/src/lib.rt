@@ -5,7 +5,6 @@ mod back;
 pub mod bring;
 mod call;
 mod look;
-mod record;
 mod repack;
 mod run;
 mod stack;

@@ -3,47 +3,42 @@ ghost use Rattle.memo.specs.Says.{Looks};
 ghost use Rattle.driver.specs.Says.{memo_in};
 ghost use Rattle.driver.specs.Doing.{Area, LookSays};
 
-use crate::stack::push_look;
-use crate::state::{At, Now};
-use crate::within::copy_answer;
+use crate::stack::{HEAD_WORDS, Head, push_head};
+use crate::state::{At, Desk, Now};
 use engine::key::Key;
-use memo::entry::{asked, got};
+use memo::entry::Cursor;
+use memo::log::NoRoom;
+use memo::record::Record;
 
-// The entry at the depth d, from its i-th question on, whose answer stands at q.
-pub fn look(
-    mem: &mut [u32],
-    known: usize,
-    memo: usize,
-    r: usize,
-    f: usize,
-    k: &Key,
-    d: usize,
-    i: usize,
-    q: usize,
-) -> Option<At>
-    requires area { Area mem.old known memo r f }
-    requires looks { Looks (memo_in known memo mem.old) d i q }
-    ensures { LookSays known memo r f k.now d i mem.old mem.new result }
-{
-    let end = mem.len() - f;
-    if end - (memo + r) < 7 {
-        return None;
+impl Desk {
+    // The entry at a depth, from a question on.
+    pub fn look(self, mem: &mut [u32], k: &Key, depth: usize, here: Cursor) -> Result<At, NoRoom>
+        requires area { Area mem.old self }
+        requires looks { Looks (memo_in self.known self.memo mem.old) depth here.index here.place }
+        ensures { LookSays self k.now depth here.index mem.old mem.new result }
+    {
+        if self.room(mem) < HEAD_WORDS {
+            return Err(NoRoom);
+        }
+        let record = Record {
+            words: self.kept(mem).words,
+            depth,
+        };
+        if here.index < record.asked() {
+            let key = record.got(here).key;
+            let head = Head::Looks {
+                key: *k,
+                depth,
+                here,
+            };
+            push_head(&mut mem[self.memo..], self.frames, head);
+            return Ok(At {
+                rows: self.rows,
+                frames: self.frames + HEAD_WORDS,
+                now: Now::Call(key),
+            });
+        }
+        let n = self.copy_answer(mem, depth)?;
+        Ok(self.at(Now::Back(n)))
     }
-    if i < asked(&mem[known..memo], d) {
-        let key = got(&mem[known..memo], d, i, q).key;
-        push_look(&mut mem[memo..], f, k, d as u32, i as u32, q as u32);
-        return Some(At {
-            rows: r,
-            frames: f + 7,
-            now: Now::Call(key),
-        });
-    }
-    let Some(n) = copy_answer(mem, known, memo, d, memo + (r + 1), end) else {
-        return None;
-    };
-    Some(At {
-        rows: r,
-        frames: f,
-        now: Now::Back(n),
-    })
 }

@@ -1,10 +1,73 @@
 // The stack's words in the work area: frames from its end downwards, rows from its front upwards. The table stands in specs/Rows.
-ghost use Rattle.std.specs.Prelude.{◌≡◌, ℕ, ◌+◌, ◌-◌, ◌<◌, ◌≤◌, List, ◌∷◌, ◌++◌, length, take, drop};
+ghost use Rattle.std.specs.Prelude.{◌≡◌, ℕ, ◌+◌, ◌-◌, ◌*◌, ◌<◌, ◌≤◌, List, ◌∷◌, ◌++◌, [], length, take, drop};
+ghost use Rattle.engine.specs.Engine.{Got};
 ghost use Rattle.memo.specs.Record.{deep};
-ghost use Rattle.driver.specs.Rows.{look_words, work_words};
-ghost use Rattle.driver.specs.Says.{Pushed, Heads};
+ghost use Rattle.memo.specs.Rows.{keys};
+ghost use Rattle.driver.specs.Rows.{key_words, stacked};
+ghost use Rattle.driver.specs.declared.stack.Head.{Head};
+ghost use Rattle.driver.specs.Says.{Pushed, head_words, HeadFits, HeadSays};
 
-use engine::key::Key;
+use crate::state::Told;
+use engine::key::{KEY_WORDS, Key};
+use memo::entry::Cursor;
+
+// The first word of a frame that looks, and of one that works.
+const LOOKS: u32 = 0;
+
+const WORKS: u32 = 1;
+
+// How many words a frame's first ones are, and how many the frame of a rule that asks, whose newest question stands behind those.
+pub const HEAD_WORDS: usize = 7;
+
+pub const WORK_WORDS: usize = HEAD_WORDS + KEY_WORDS;
+
+// A frame's first words: a key whose entry, at a depth, is looked at, and at which question; or a rule that waits.
+#[derive(Clone, Copy)]
+pub enum Head {
+    Looks {
+        key: Key,
+        depth: usize,
+        here: Cursor,
+    },
+    Works(Told),
+}
+
+impl Head {
+    // In words.
+    fn pack(self) -> [u32; HEAD_WORDS]
+        requires { HeadFits self }
+        ensures { result ≡ head_words self [] }
+    {
+        let (tag, key, x, y, z) = match self {
+            Head::Looks { key, depth, here } => (LOOKS, key, depth, here.index, here.place),
+            Head::Works(told) => (WORKS, told.key, told.count, told.from, 0),
+        };
+        let [kind, a, b] = <[u32; KEY_WORDS]>::from(key);
+        [tag, kind, a, b, x as u32, y as u32, z as u32]
+    }
+
+    // That of the newest frame.
+    pub fn newest(work: &[u32], f: usize) -> Head
+        requires { (7 ≤ f) × (f ≤ length work.now) }
+        ensures { HeadSays result (deep f work.now) (deep (f - 7) work.now) }
+    {
+        let h = &work[work.len() - f..];
+        let key = Key::from([h[1], h[2], h[3]]);
+        let (x, y, z) = (h[4] as usize, h[5] as usize, h[6] as usize);
+        if h[0] == LOOKS {
+            return Head::Looks {
+                key,
+                depth: x,
+                here: Cursor { index: y, place: z },
+            };
+        }
+        Head::Works(Told {
+            key,
+            count: x,
+            from: y,
+        })
+    }
+}
 
 // Words put in front of the last f.
 fn push(work: &mut [u32], f: usize, xs: &[u32])
@@ -15,55 +78,34 @@ fn push(work: &mut [u32], f: usize, xs: &[u32])
     work[h..h + xs.len()].copy_from_slice(xs);
 }
 
-// A frame that looks put in front of the frames: seven words.
-pub fn push_look(work: &mut [u32], f: usize, k: &Key, d: u32, i: u32, q: u32)
-    requires { f + 7 ≤ length work.old }
-    ensures adds { deep (f + 7) work.new ≡ look_words k.now d i q (deep f work.old) }
+// A frame's first words put in front of the frames, or of the keys that its rule asked.
+pub fn push_head(work: &mut [u32], f: usize, head: Head)
+    requires { (f + 7 ≤ length work.old) × HeadFits head }
+    ensures adds { deep (f + 7) work.new ≡ head_words head (deep f work.old) }
     ensures below { (m : ℕ) → m + (f + 7) ≤ length work.old → take m work.new ≡ take m work.old }
 {
-    push(work, f, &[0, k.kind, k.a, k.b, d, i, q]);
+    push(work, f, &head.pack());
 }
 
-// A frame that works put in front of the keys that it asked before: ten words, with the key that it asks now.
-pub fn push_work(work: &mut [u32], f: usize, k: &Key, n: u32, from: u32, q: &Key)
-    requires { f + 10 ≤ length work.old }
-    ensures adds { deep (f + 10) work.new ≡ work_words k.now n from q.now (deep f work.old) }
+// The frame of a rule that asks q put in front of the keys that it asked before: ten words.
+pub fn push_work(work: &mut [u32], f: usize, told: Told, q: &Key)
+    requires { (f + 10 ≤ length work.old) × HeadFits (Head.Works told) }
+    ensures adds { deep (f + 10) work.new ≡ head_words (Head.Works told) (key_words q.now (deep f work.old)) }
     ensures below { (m : ℕ) → m + (f + 10) ≤ length work.old → take m work.new ≡ take m work.old }
 {
-    push(
-        work,
-        f,
-        &[1, k.kind, k.a, k.b, n, from, 0, q.kind, q.a, q.b],
-    );
+    push(work, f, &<[u32; KEY_WORDS]>::from(*q));
+    push_head(work, f + KEY_WORDS, Head::Works(told));
 }
 
-// The first words of a frame.
-#[derive(Clone, Copy)]
-pub struct Head {
-    pub tag: u32,
-    pub key: Key,
-    pub x: u32,
-    pub y: u32,
-    pub z: u32,
-}
-
-// The first words of the newest frame.
-pub fn newest(work: &[u32], f: usize) -> Head
-    requires { (7 ≤ f) × (f ≤ length work.now) }
-    ensures { Heads result.tag result.key result.x result.y result.z (deep f work.now) (deep (f - 7) work.now) }
+// The keys that a rule asked, the newest first, put in the order in which it asked them.
+pub fn put_in_order(asked: &mut [u32], count: usize)
+    requires { length asked.old ≡ 3 * count }
+    ensures { (gs : List Got) → asked.old ≡ stacked gs [] → asked.new ≡ keys gs }
 {
-    let h = work.len() - f;
-    let key = Key {
-        kind: work[h + 1],
-        a: work[h + 2],
-        b: work[h + 3],
-    };
-    Head {
-        tag: work[h],
-        key,
-        x: work[h + 4],
-        y: work[h + 5],
-        z: work[h + 6],
+    asked.reverse();
+    // by index, since a proof knows nothing of the elements that chunks_exact_mut leaves
+    for i in 0..count {
+        asked[KEY_WORDS * i..KEY_WORDS * i + KEY_WORDS].reverse();
     }
 }
 

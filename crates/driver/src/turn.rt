@@ -5,38 +5,35 @@ ghost use Rattle.driver.specs.Says.{memo_in};
 ghost use Rattle.driver.specs.Doing.{Doing, Area};
 ghost use Rattle.driver.specs.Turns.{tellings, TurnSays};
 
-use crate::back::back_frame;
-use crate::call::{call_input, call_kept};
-use crate::state::{At, Now};
-use crate::tell::tell_rule;
+use crate::state::{At, Desk, Now};
 use engine::rules::{Inputs, Rules};
+use memo::log::NoRoom;
 
-// The next turn, from where the machine stands; or there was too little room for it. A rule is told at most once.
-pub fn turn<R: Rules, I: Inputs>(
-    mem: &mut [u32],
-    known: usize,
-    memo: usize,
-    rules: &mut R,
-    inputs: &I,
-    t: At,
-) -> Option<At>
-    requires area { Area mem.old known memo t.rows t.frames }
-    requires runs1 { R.Rules.runs rules.old < 9223372036854775808 }
-    requires there { (c : State) × Busy c × Doing (memo_in known memo mem.old) (drop memo mem.old) t.rows t.frames t.now c }
-    ensures book1 { R.Rules.book rules.new ≡ R.Rules.book rules.old }
-    ensures runs1 { R.Rules.runs rules.new ≡ R.Rules.runs rules.old + tellings t.now }
-    ensures says { TurnSays (R.Rules.book rules.old) (I.Inputs.given inputs.now (take known mem.old)) known memo t.rows t.frames t.now mem.old mem.new result }
-{
-    let r = t.rows;
-    let f = t.frames;
-    match t.now {
-        Now::Call(k) => {
-            if rules.is_input(&k) {
-                return call_input(mem, known, memo, r, f, inputs, &k);
+impl Desk {
+    // The next turn, from where the machine stands; or there was too little room for it. A rule is told at most once.
+    pub fn turn<R: Rules, I: Inputs>(
+        self,
+        mem: &mut [u32],
+        rules: &mut R,
+        inputs: &I,
+        now: Now,
+    ) -> Result<At, NoRoom>
+        requires area { Area mem.old self }
+        requires runs1 { R.Rules.runs rules.old < 9223372036854775808 }
+        requires there { (c : State) × Busy c × Doing (memo_in self.known self.memo mem.old) (drop self.memo mem.old) self.rows self.frames now c }
+        ensures book1 { R.Rules.book rules.new ≡ R.Rules.book rules.old }
+        ensures runs1 { R.Rules.runs rules.new ≡ R.Rules.runs rules.old + tellings now }
+        ensures says { TurnSays (R.Rules.book rules.old) (I.Inputs.given inputs.now (take self.known mem.old)) self now mem.old mem.new result }
+    {
+        match now {
+            Now::Call(k) => {
+                if rules.is_input(&k) {
+                    return self.call_input(mem, inputs, &k);
+                }
+                self.call_kept(mem, &k)
             }
-            call_kept(mem, known, memo, r, f, &k)
+            Now::Back(n) => self.back_frame(mem, n),
+            Now::Tell(told) => self.tell_rule(mem, rules, told),
         }
-        Now::Back(n) => back_frame(mem, known, memo, r, f, n),
-        Now::Tell(k, n, from) => tell_rule(mem, known, memo, r, f, rules, &k, n, from),
     }
 }

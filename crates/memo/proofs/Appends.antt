@@ -1,9 +1,11 @@
 -- A record more: the row is in order then, what it holds is what was held with the entry stored over it, and all that stood stands
 -- (append_fits, append_says, append_keeps).
-use Rattle.std.proofs.Common.{◌≡◌, ℕ, zero, suc, ◌+◌, ◌-◌, ◌*◌, ◌<◌, ◌≤◌, true, false, List, [], ◌++◌, length, get_or, take, drop, set, sym, refl, ap, ◌∙◌, subst, add-one, arith, length-append, length-drop, length-set}
+use Rattle.std.proofs.Common.{◌≡◌, ℕ, zero, suc, ◌+◌, ◌-◌, ◌*◌, ◌<◌, ◌≤◌, List, [], ◌++◌, length, get_or, take, drop, set, sym, refl, ap, ◌∙◌, subst, add-one, arith, length-append, length-drop, length-set}
 use lib.Seq.{take-set-lt}
 use Rattle.std.proofs.lemmas.List.{drop-drop, drop_at, drop-take, drop-set-lt, drop-set-add, get_or-set_same, get_or-set_other, get_or-take}
 use Rattle.engine.specs.declared.key.Key.{Key}
+use Rattle.std.specs.Prelude.{Ok, Err}
+use Rattle.memo.specs.declared.log.NoRoom.{NoRoom}
 use Rattle.memo.specs.declared.mark.Mark.{Mark}
 use Rattle.engine.specs.Engine.{store}
 use Rattle.memo.specs.Record.{records, size, older, entry_of, deep, puts, packed, made, gots_of, row_long}
@@ -178,7 +180,7 @@ module _ (ws : List ℕ) (f : Fits ws) (k : Key) (ans : List ℕ) (c : ℕ) (key
   pub append_buckets : get_or vs 2 0 ≡ get_or ws 2 0
   append_buckets = v2
 
-  pub append_says : StoreSays (made k ans (gots_of c keys row)) ws vs true
+  pub append_says : StoreSays (made k ans (gots_of c keys row)) ws vs (Ok tt)
   unfolding spare kept_entries
   append_says =
       let o = old_log in
@@ -191,10 +193,9 @@ module _ (ws : List ℕ) (f : Fits ws) (k : Key) (ans : List ℕ) (c : ℕ) (key
         omega arith,
       )
 
-pub refused : (ws : List ℕ) (k : Key) (ans : List ℕ) (c : ℕ) (keys row : List ℕ) → length keys ≡ 3 * c → row_long c row ≡ length row → length ws - (3 + get_or ws 2 0 + get_or ws 0 0) < 7 + (length ans + (length keys + length row))
-    → StoreSays (made k ans (gots_of c keys row)) ws ws false
-unfolding spare
-refused ws k ans c keys row kl rl h = let s = entry_sum k 0 ans c keys row [] kl rl in (refl, omega arith)
+pub refused : (x : NoRoom) (ws : List ℕ) (k : Key) (ans : List ℕ) (c : ℕ) (keys row : List ℕ) → length keys ≡ 3 * c → row_long c row ≡ length row → spare ws < 7 + (length ans + (length keys + length row))
+    → StoreSays (made k ans (gots_of c keys row)) ws ws (Err x)
+refused x ws k ans c keys row kl rl h = let s = entry_sum k 0 ans c keys row [] kl rl in (refl, omega arith)
 
 pub keeps_self : (ws : List ℕ) → Keeps ws ws
 keeps_self ws = record { records1 = λ d r. (r, refl); looks = λ d i q r. r; marks = λ m r. (r, refl) }
@@ -203,3 +204,8 @@ keeps_self ws = record { records1 = λ d r. (r, refl); looks = λ d i q r. r; ma
 pub few : (b n : ℕ) (ws : List ℕ) → Logged b n ws → n ≤ length ws
 few b zero ws h = omega arith
 few b (suc n) ws h = let r = few b n (older ws) h.1 in let i = h.0.inside in let l = length-drop (size ws) ws in omega arith
+
+-- how much room there is
+pub spare_is : (ws : List ℕ) → spare ws ≡ length ws - (3 + get_or ws 2 0 + get_or ws 0 0)
+unfolding spare
+spare_is ws = refl

@@ -1,7 +1,7 @@
 -- The index over a log: the head of a bucket leads to the newest record of a key (head_finds), and each record on to the next
 -- (next_finds).
 use Rattle.std.proofs.Common.{◌≡◌, ℕ, zero, suc, ◌+◌, ◌-◌, ◌<◌, ◌≤◌, Bool, true, false, ◌⊎◌, List, ◌∷◌, length, get_or, drop, set, sym, refl, ap, ◌∙◌, subst, inl, inr, mod-lt, arith, length-drop, length-set}
-use mathlib.Core.Option.{some, none}
+use mathlib.Core.Option.{some}
 use lib.ListN.{length-replicate, get_or-replicate}
 use Rattle.std.proofs.lemmas.List.{drop-drop, get_or-set_same, get_or-set_other}
 use Rattle.std.proofs.lemmas.Bool.{cases_eq}
@@ -10,7 +10,8 @@ use Rattle.base.specs.Base.{pick}
 use Rattle.engine.specs.Engine.{Entry, same_key, find}
 use Rattle.memo.specs.Record.{key_of, size, entry_of, older, records}
 use Rattle.memo.specs.Log.{bucket, heads, One, Logged, Reaches, here, back}
-use Rattle.memo.proofs.Folds.{key_eq}
+use Rattle.engine.proofs.Basics.{key_true}
+use Rattle.memo.specs.Chain.{There, Found}
 
 pub bucket_lt : (k : Key) (b : ℕ) → 1 ≤ b → bucket k b < b
 unfolding bucket
@@ -46,18 +47,6 @@ pub reach_suffix : (b : ℕ) {n m : ℕ} {ws l : List ℕ} → Logged b n ws →
 reach_suffix b {ws = ws} h here = suffix_self ws
 reach_suffix b {ws = ws} {l = l} h (back r) = suffix_drop ws (size ws) l h.0.inside (reach_suffix b h.1 r)
 
--- what stands where a bucket's newest record is said to be
-pub record There (b n : ℕ) (ws : List ℕ) (k : Key) (d : ℕ) : Type 0 where
-  pub m : ℕ
-  pub l : List ℕ
-  pub reached : Reaches n ws (suc m) l
-  pub long : length l ≡ d
-  pub same1 : find (records n ws) k ≡ find (records (suc m) l) k
-  pub bucket1 : bucket (key_of l) b ≡ bucket k b
-
-abbrev pub Found : ℕ → ℕ → List ℕ → Key → ℕ → Type 0
-Found b n ws k d = ((d ≡ 0) × (find (records n ws) k ≡ none)) ⊎ There b n ws k d
-
 pub key_in : (ws : List ℕ) → (entry_of ws).key ≡ key_of ws
 unfolding entry_of
 key_in ws = refl
@@ -66,7 +55,7 @@ skip : (es : List Entry) (e : Entry) (k : Key) → (e.key ≡ k → ⊥) → fin
 skip es e k h = go (same_key e.key k) refl
   where
     go : (c : Bool) → same_key e.key k ≡ c → find (e ∷ es) k ≡ find es k
-    go true p = absurd (h (key_eq e.key k p))
+    go true p = absurd (h (key_true e.key k p))
     go false p = ap (λ c. pick c (some e) (find es k)) p
 
 pub skip_first : (n : ℕ) (ws : List ℕ) (k : Key) → (key_of ws ≡ k → ⊥) → find (records (suc n) ws) k ≡ find (records n (older ws)) k

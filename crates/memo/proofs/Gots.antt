@@ -57,19 +57,11 @@ module _ (l : List ℕ) (i q : ℕ) (g : AtGot l i q) (h : i < get_or l 5 0) whe
   m_is : get_or row 0 0 ≡ m
   m_is = let z : 7 + (a + 3 * c) + (q + 0) ≡ 7 + (a + 3 * c) + q = omega arith in get_or-drop q (row_in l) 0 0 ∙ get_or-drop (7 + (a + 3 * c)) l (q + 0) 0 ∙ ap (λ n. get_or l n 0) z
 
-  key_word : (n : ℕ) → get_or ks n 0 ≡ get_or l (7 + a + 3 * i + n) 0
-  key_word n = let z : 7 + a + (3 * i + n) ≡ 7 + a + 3 * i + n = omega arith in get_or-drop (3 * i) (keys_in l) n 0 ∙ get_or-drop (7 + a) l (3 * i + n) 0 ∙ ap (λ n. get_or l n 0) z
-
   abbrev key1 : Key
-  key1 = record { kind = get_or l (7 + a + 3 * i) 0; a = get_or l (7 + a + 3 * i + 1) 0; b = get_or l (7 + a + 3 * i + 2) 0 }
+  key1 = key_of (drop (7 + a + 3 * i) l)
 
   key_is : key_of ks ≡ key1
-  key_is =
-      let z : 7 + a + 3 * i + 0 ≡ 7 + a + 3 * i = omega arith in
-      let p = key_word 0 ∙ ap (λ n. get_or l n 0) z in
-      let r = key_word 1 in
-      let s = key_word 2 in
-      λ t. record { kind = p t; a = r t; b = s t }
+  key_is = ap key_of (drop-drop (3 * i) (7 + a) l)
 
   abbrev ans1 : List ℕ
   ans1 = take m (drop (7 + (a + 3 * c) + q + 1) l)
@@ -127,20 +119,18 @@ looking ws d i q f g h =
 
 pub got_says : (ws : List ℕ) (d i q : ℕ) → Looks ws d i q → i < length (entry_at ws d).gots → (a c n : ℕ) (k : Key) (as₁ : List ℕ)
     → a ≡ get_or (deep d ws) 4 0 → c ≡ get_or (deep d ws) 5 0 → n ≡ get_or (deep d ws) (7 + (a + 3 * c) + q) 0
-    → k.kind ≡ get_or (deep d ws) (7 + a + 3 * i) 0 → k.a ≡ get_or (deep d ws) (7 + a + 3 * i + 1) 0 → k.b ≡ get_or (deep d ws) (7 + a + 3 * i + 2) 0
+    → k ≡ key_of (drop (7 + a + 3 * i) (deep d ws))
     → as₁ ≡ take n (drop (7 + (a + 3 * c) + q + 1) (deep d ws)) → GotSays ws d i k as₁ (q + (1 + n))
 unfolding entry_at entry_of
-got_says ws d i q g h a c n k as₁ ea ec en ek1 ek2 ek3 es =
+got_says ws d i q g h a c n k as₁ ea ec en ek es =
     let l = deep d ws in
     let e = asked_count ws d in
     let h1 : i < get_or l 5 0 = omega arith in
     let x = got_is l i q g.«at» h1 in
     let en1 : n ≡ get_or l (7 + (get_or l 4 0 + 3 * get_or l 5 0) + q) 0 = en ∙ (λ t. get_or l (7 + (ea t + 3 * ec t) + q) 0) in
-    let k1 = ek1 ∙ ap (λ m. get_or l (7 + m + 3 * i) 0) ea in
-    let k2 = ek2 ∙ ap (λ m. get_or l (7 + m + 3 * i + 1) 0) ea in
-    let k3 = ek3 ∙ ap (λ m. get_or l (7 + m + 3 * i + 2) 0) ea in
+    let k1 = ek ∙ ap (λ m. key_of (drop (7 + m + 3 * i) l)) ea in
     let s1 = es ∙ (λ t. take (en1 t) (drop (7 + (ea t + 3 * ec t) + q + 1) l)) in
     record {
-      is = x ∙ (λ t. record { key = record { kind = sym k1 t; a = sym k2 t; b = sym k3 t }; ans = sym s1 t } ∷ drop (i + 1) (gots_of (get_or l 5 0) (keys_in l) (row_in l)));
+      is = x ∙ (λ t. record { key = sym k1 t; ans = sym s1 t } ∷ drop (i + 1) (gots_of (get_or l 5 0) (keys_in l) (row_in l)));
       looks = record { record1 = g.record1; «at» = subst (λ m. AtGot l (i + 1) (q + (1 + m))) (sym en1) (got_next l i q g.«at» h1) };
     }

@@ -1,5 +1,5 @@
--- Words at places: Places, Puts, Packs, Unpacks. The log: Folds, Chains, Appends, Pops, Tests. What callers do: Gots, Rows, Slots. Repacking:
--- Order, Oldest, Repacks.
+-- Words at places: Places, Puts, Packs, Unpacks. The log: Folds, Chains, Along, Appends, Pops, Tests. What callers do: Gots, Rows, Slots. Repacking:
+-- Order, Repacks.
 pub mod Folds
 pub mod Chains
 pub mod Places
@@ -10,7 +10,7 @@ pub mod Pops
 pub mod Gots
 pub mod Tests
 pub mod Order
-pub mod Oldest
+pub mod Along
 pub mod Unpacks
 pub mod Repacks
 pub mod Slots

@@ -9,14 +9,15 @@ use Rattle.engine.specs.Engine.{Entry, same_key, find, store}
 use Rattle.memo.specs.Record.{entry_long, entries_long}
 use Rattle.memo.specs.Log.{folded}
 use Rattle.memo.specs.Says.{Apart}
-use Rattle.memo.proofs.Folds.{key_eq, key_refl, find_store, find_folded}
+use Rattle.engine.proofs.Basics.{key_true, key_refl}
+use Rattle.memo.proofs.Folds.{find_store, find_folded}
 
 same_sym : (j k : Key) (b : Bool) → same_key j k ≡ b → same_key k j ≡ b
-same_sym j k true h = let e = key_eq j k h in ap (λ x. same_key k x) e ∙ key_refl k
+same_sym j k true h = let e = key_true j k h in ap (λ x. same_key k x) e ∙ key_refl k
 same_sym j k false h = go (same_key k j) refl
   where
     go : (b : Bool) → same_key k j ≡ b → same_key k j ≡ false
-    go true p = let e = key_eq k j p in absurd (both_ways _ h (ap (λ x. same_key j x) e ∙ key_refl j))
+    go true p = let e = key_true k j p in absurd (both_ways _ h (ap (λ x. same_key j x) e ∙ key_refl j))
     go false p = p
 
 pub apart_store : (e : Entry) (es : List Entry) → Apart es → Apart (store e es)
@@ -24,7 +25,7 @@ apart_store e [] h = (refl, tt)
 apart_store e (f ∷ fs) h = go (apart_store e fs h.1) (same_key f.key e.key) refl
   where
     go : Apart (store e fs) → (b : Bool) → same_key f.key e.key ≡ b → Apart (store e (f ∷ fs))
-    go r true p = subst (λ b. Apart (pick b (e ∷ fs) (f ∷ store e fs))) (sym p) (ap (find fs) (sym (key_eq f.key e.key p)) ∙ h.0, h.1)
+    go r true p = subst (λ b. Apart (pick b (e ∷ fs) (f ∷ store e fs))) (sym p) (ap (find fs) (sym (key_true f.key e.key p)) ∙ h.0, h.1)
     go r false p =
         subst (λ b. Apart (pick b (e ∷ fs) (f ∷ store e fs))) (sym p)
         (find_store e fs f.key ∙ ap (λ b. pick b (some e) (find fs f.key)) (same_sym f.key e.key false p) ∙ h.0, r)
@@ -60,7 +61,7 @@ store_hit e (f ∷ fs) a h = go (λ q. store_hit e fs a.1 q) (same_key f.key e.k
   where
     go : (is_some (find fs e.key) ≡ true → store e fs ≡ over e fs) → (b : Bool) → same_key f.key e.key ≡ b → store e (f ∷ fs) ≡ over e (f ∷ fs)
     go r true p =
-        let m = over_miss e fs (ap (find fs) (sym (key_eq f.key e.key p)) ∙ a.0) in
+        let m = over_miss e fs (ap (find fs) (sym (key_true f.key e.key p)) ∙ a.0) in
         ap (λ b. pick b (e ∷ fs) (f ∷ store e fs)) p ∙ (λ t. pick (sym p t) e f ∷ sym m t)
     go r false p =
         let q = r (ap (λ b. is_some (pick b (some f) (find fs e.key))) (sym p) ∙ h) in
@@ -82,7 +83,7 @@ find_key [] k e h = let z : ◌≡◌ {A = ℕ} 0 1 = cc in absurd (omega arith)
 find_key (f ∷ fs) k e h = go (λ q. find_key fs k e q) (same_key f.key k) refl
   where
     go : (find fs k ≡ some e → e.key ≡ k) → (b : Bool) → same_key f.key k ≡ b → e.key ≡ k
-    go r true p = let q : some f ≡ some e = ap (λ b. pick b (some f) (find fs k)) (sym p) ∙ h in let s : f ≡ e = cc in ap (λ x. x.key) (sym s) ∙ key_eq f.key k p
+    go r true p = let q : some f ≡ some e = ap (λ b. pick b (some f) (find fs k)) (sym p) ∙ h in let s : f ≡ e = cc in ap (λ x. x.key) (sym s) ∙ key_true f.key k p
     go r false p = r (ap (λ b. pick b (some f) (find fs k)) (sym p) ∙ h)
 
 newest_key : (all : List Entry) (r : Entry) → (newest all r).key ≡ r.key

@@ -2,12 +2,14 @@
 use Rattle.std.proofs.Common.{◌≡◌, ℕ, zero, suc, ◌+◌, ◌-◌, ◌*◌, ◌<◌, ◌≤◌, Bool, true, false, not, List, [], ◌∷◌, ◌++◌, length, get_or, take, drop, set, replicate, sym, refl, ap, ◌∙◌, subst, append_assoc, add-one, arith, length-drop, length-take}
 use Rattle.std.proofs.lemmas.List.{drop-drop, append-nil, length-take-le}
 use Rattle.engine.specs.declared.key.Key.{Key}
+use Rattle.std.specs.Prelude.{Result, Ok, Err, ⊤}
+use Rattle.memo.specs.declared.log.NoRoom.{NoRoom}
 use Rattle.memo.specs.declared.mark.Mark.{Mark}
 use Rattle.base.specs.Base.{pick, opt, is_some}
 use Rattle.engine.specs.Engine.{Entry, find, store}
 use Rattle.memo.specs.Record.{size, entry_of, older, records, row_in, deep, puts, entry_long, entries_long, made, gots_of, row_long}
 use Rattle.memo.specs.Log.{entry_at, Logged, log, Fits, Record, Reaches, here, back, kept_entries, pointed, spare, capacity}
-use Rattle.memo.specs.Says.{Plain, OldestSays, NewestSays, Gathers, Apart, gathered, Rebuilds, PartsSays, StoreSays}
+use Rattle.memo.specs.Says.{Plain, OldestSays, NewestSays, Gathers, Apart, Rebuilds, PartsSays, StoreSays}
 use Rattle.memo.proofs.Folds.{find_folded}
 use Rattle.memo.proofs.Chains.{reach_logged, reach_on, key_in}
 use Rattle.memo.proofs.Places.{deep_long, stands, Stands}
@@ -180,11 +182,11 @@ parts_asked l k ans c keys row i r p =
       (λ t. made (ek t) (ea t) (gots_of (ec t) (es t) (er t))) ∙ sym (unpacked l i r),
     )
 
-stored : (e : Entry) (ws vs : List ℕ) (r : Bool) → StoreSays e ws vs r → entry_long e ≤ spare ws → (kept_entries vs ≡ store e (kept_entries ws)) × (spare ws ≡ entry_long e + spare vs)
-stored e ws vs true s h = s
-stored e ws vs false s h = absurd (omega (arith, s.1))
+stored : (e : Entry) (ws vs : List ℕ) (r : Result ⊤ NoRoom) → StoreSays e ws vs r → entry_long e ≤ spare ws → (kept_entries vs ≡ store e (kept_entries ws)) × (spare ws ≡ entry_long e + spare vs)
+stored e ws vs (Ok u) s h = s
+stored e ws vs (Err x) s h = absurd (omega (arith, s.1))
 
-pub rebuild_step : (ws work : List ℕ) (es : List Entry) (d n total : ℕ) → Rebuild ws work es d n total → (n ≡ 0 → ⊥) → Apart es → entries_long es ≤ total → (vs : List ℕ) (r : Bool) → Fits vs
+pub rebuild_step : (ws work : List ℕ) (es : List Entry) (d n total : ℕ) → Rebuild ws work es d n total → (n ≡ 0 → ⊥) → Apart es → entries_long es ≤ total → (vs : List ℕ) (r : Result ⊤ NoRoom) → Fits vs
     → StoreSays (entry_of (deep d work)) ws vs r → Rebuild vs work es (d - size (deep d work)) (n - 1) total
 rebuild_step ws work es d zero total x h a le vs r f s = absurd (h refl)
 rebuild_step ws work es d (suc n) total x h a le vs r f s =
@@ -244,17 +246,6 @@ pub reset : (ws vs : List ℕ) → Fits ws → vs ≡ pointed (set (puts 3 (repl
 unfolding capacity
 reset ws vs f e = let r = f.room in let x = empty ws (get_or ws 2 0) f.buckets (omega arith) vs e in let y = x.2 in (x.0, x.1, omega arith)
 
-pub rebuild_begins : (ws vs work : List ℕ) (m : Mark) → Rebuilds ws work m → Fits vs × (kept_entries vs ≡ []) × (spare vs ≡ capacity ws) → Rebuild vs work (gathered work m) m.depth m.count (spare vs)
-rebuild_begins ws vs work m b x =
-    let k = ap entries_long x.1 in
-    record { fits = x.0; within = b.within; plain = b.plain; is = ap (λ q. q ++ gathered work m) x.1; sum = omega arith }
-
-pub rebuild_ends : (vs work : List ℕ) (es : List Entry) (d total : ℕ) → Rebuild vs work es d 0 total → (kept_entries vs ≡ es) × (spare vs + entries_long es ≡ total)
-rebuild_ends vs work es d total x =
-    let e = sym (append-nil (kept_entries vs)) ∙ x.is in
-    (e, ap (λ q. spare vs + entries_long q) (sym e) ∙ x.sum)
-
--- what is left has a record in front
 pub rebuild_one : (ws work : List ℕ) (es : List Entry) (d n total : ℕ) → Rebuild ws work es d n total → (n ≡ 0 → ⊥) → (size (deep d work) ≤ length (deep d work)) × (row_long (get_or (deep d work) 5 0) (row_in (deep d work)) ≡ get_or (deep d work) 6 0) × (size (deep d work) ≤ d) × (d ≤ length work)
 rebuild_one ws work es d zero total x h = absurd (h refl)
 rebuild_one ws work es d (suc n) total x h = let p = x.plain in let l = deep_long work d x.within in let i = p.0 in (p.0, p.1, omega arith, x.within)

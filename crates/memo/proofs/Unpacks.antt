@@ -5,7 +5,7 @@ use Rattle.memo.specs.Record.{key_of, gots_of, row_long, size, row_in, entry_of,
 use Rattle.memo.specs.Says.{Plain}
 use Rattle.memo.proofs.Packs.{row_is, size_is, older_is, entry_is, entry_sum, row_more}
 
-seven : (l : List ℕ) → 7 ≤ length l → take 7 l ≡ get_or l 0 0 ∷ get_or l 1 0 ∷ get_or l 2 0 ∷ get_or l 3 0 ∷ get_or l 4 0 ∷ get_or l 5 0 ∷ get_or l 6 0 ∷ []
+pub seven : (l : List ℕ) → 7 ≤ length l → take 7 l ≡ get_or l 0 0 ∷ get_or l 1 0 ∷ get_or l 2 0 ∷ get_or l 3 0 ∷ get_or l 4 0 ∷ get_or l 5 0 ∷ get_or l 6 0 ∷ []
 seven [] h = absurd (omega arith)
 seven (a ∷ []) h = absurd (omega arith)
 seven (a ∷ b ∷ []) h = absurd (omega arith)

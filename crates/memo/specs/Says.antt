@@ -1,12 +1,13 @@
 -- What the functions of the memo promise. ws is the row before, vs the row after.
-use Rattle.std.specs.Prelude.{◌≡◌, ℕ, zero, suc, ◌+◌, ◌-◌, ◌*◌, ◌/◌, ◌<◌, ◌≤◌, Bool, true, false, not, List, [], ◌∷◌, length, take, drop, slice_index, slice_index_or}
+use Rattle.std.specs.Prelude.{◌≡◌, ℕ, zero, suc, ◌+◌, ◌-◌, ◌*◌, ◌/◌, ◌<◌, ◌≤◌, Bool, not, List, [], ◌∷◌, length, take, drop, replicate, Result, Ok, Err, ⊤, slice_index, slice_index_or, slice_set}
 use Rattle.std.proofs.Math.Option.{none}
 use Rattle.base.specs.Base.{is_some, opt}
 use Rattle.engine.specs.declared.key.Key.{Key}
+use Rattle.memo.specs.declared.log.NoRoom.{NoRoom}
 use Rattle.memo.specs.declared.mark.Mark.{Mark}
 use Rattle.engine.specs.Engine.{Ans, Entry, store, find}
-use Rattle.memo.specs.Record.{key_of, gots_of, row_long, size, keys_in, row_in, older, records, deep, entry_long, entries_long}
-use Rattle.memo.specs.Log.{log, Fits, kept_entries, Record, entry_at, Marked, entries_at, spare, capacity}
+use Rattle.memo.specs.Record.{key_of, gots_of, row_long, size, keys_in, row_in, older, records, deep, puts, entry_long, entries_long}
+use Rattle.memo.specs.Log.{log, Fits, kept_entries, Record, entry_at, Marked, entries_at, pointed, spare, capacity}
 
 -- the answer to the i-th question of the record at the front stands at q in its row
 pub record AtGot (l : List ℕ) (i q : ℕ) : Type 0 where
@@ -31,9 +32,9 @@ pub record Keeps (ws vs : List ℕ) : Type 0 where
   pub marks : (m : Mark) → Marked ws m → Marked vs m × (entries_at vs m ≡ entries_at ws m)
 
 -- an entry stored as a record more; or there was too little room, and nothing changed
-abbrev pub StoreSays : Entry → List ℕ → List ℕ → Bool → Type 0
-StoreSays e ws vs true = (kept_entries vs ≡ store e (kept_entries ws)) × (spare ws ≡ entry_long e + spare vs)
-StoreSays e ws vs false = (vs ≡ ws) × (spare ws < entry_long e)
+abbrev pub StoreSays : Entry → List ℕ → List ℕ → Result ⊤ NoRoom → Type 0
+StoreSays e ws vs (Ok u) = (kept_entries vs ≡ store e (kept_entries ws)) × (spare ws ≡ entry_long e + spare vs)
+StoreSays e ws vs (Err x) = (vs ≡ ws) × (spare ws < entry_long e)
 
 -- the newest record taken off
 pub record Popped (ws vs : List ℕ) : Type 0 where
@@ -43,9 +44,13 @@ pub record Popped (ws vs : List ℕ) : Type 0 where
   pub shorter : slice_index_or vs 0 0 < slice_index ws 0
 
 -- an empty memo, and the room that it has; or there were fewer than four words
-abbrev pub Created : List ℕ → List ℕ → Bool → Type 0
-Created ws vs true = Fits vs × (kept_entries vs ≡ []) × (length ws ≡ 3 + (1 + (length ws - 4) / 16) + spare vs)
-Created ws vs false = length ws < 4
+abbrev pub Created : List ℕ → List ℕ → Result ⊤ NoRoom → Type 0
+Created ws vs (Ok u) = Fits vs × (kept_entries vs ≡ []) × (length ws ≡ 3 + (1 + (length ws - 4) / 16) + spare vs)
+Created ws vs (Err x) = length ws < 4
+
+-- the words of an empty memo of b buckets, put over others
+abbrev pub Emptied : ℕ → List ℕ → List ℕ → Type 0
+Emptied b ws vs = vs ≡ pointed (slice_set (puts 3 (replicate b 0) ws) 2 b) 0 0 0 0
 
 -- n records in order one after the other, without an index
 abbrev pub Plain : ℕ → List ℕ → Type 0
@@ -63,9 +68,9 @@ pub record Gathers (ws work : List ℕ) (m : Mark) : Type 0 where
   pub is : records m.count (deep m.depth work) ≡ kept_entries ws
 
 -- the same entries without old records, so that all but what they take is free; or the work area, of n words, was too small
-abbrev pub RepackSays : List ℕ → List ℕ → ℕ → Bool → Type 0
-RepackSays ws vs n true = (kept_entries vs ≡ kept_entries ws) × (spare vs + entries_long (kept_entries ws) ≡ capacity ws)
-RepackSays ws vs n false = (vs ≡ ws) × (n < entries_long (kept_entries ws))
+abbrev pub RepackSays : List ℕ → List ℕ → ℕ → Result ⊤ NoRoom → Type 0
+RepackSays ws vs n (Ok u) = (kept_entries vs ≡ kept_entries ws) × (spare vs + entries_long (kept_entries ws) ≡ capacity ws)
+RepackSays ws vs n (Err x) = (vs ≡ ws) × (n < entries_long (kept_entries ws))
 
 -- the newest record of the key of the record at d
 pub record NewestSays (ws : List ℕ) (d e : ℕ) : Type 0 where

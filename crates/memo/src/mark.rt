@@ -4,8 +4,8 @@ ghost use Rattle.memo.specs.Log.{Fits, kept_entries, Marked, entries_at};
 ghost use Rattle.memo.specs.Says.{Popped};
 
 use crate::chain::bucket_of;
-use crate::record::{key_at, size_at, word};
-use crate::row::point;
+use crate::record::{OLDER, Record};
+use crate::row::{BUCKETS, LOG, RECORDS, point};
 
 // The memo as it was at some time: the length of its log, and how many records it had.
 #[derive(Clone, Copy)]
@@ -21,8 +21,8 @@ pub fn take_mark(words: &[u32]) -> Mark
     ensures is { entries_at words.now result ≡ kept_entries words.now }
 {
     Mark {
-        depth: words[0] as usize,
-        count: words[1] as usize,
+        depth: words[LOG] as usize,
+        count: words[RECORDS] as usize,
     }
 }
 
@@ -33,7 +33,7 @@ pub fn roll_back(words: &mut [u32], mark: Mark)
     ensures is { kept_entries words.new ≡ entries_at words.old mark }
     ensures buckets { slice_index words.new 2 ≡ slice_index words.old 2 }
 {
-    while words[0] as usize > mark.depth {
+    while words[LOG] as usize > mark.depth {
         pop(words);
     }
 }
@@ -45,10 +45,14 @@ fn pop(words: &mut [u32])
     ensures popped { Popped words.old words.new }
     ensures buckets { slice_index words.new 2 ≡ slice_index words.old 2 }
 {
-    let depth = words[0] as usize;
-    let count = words[1];
-    let size = size_at(words, depth);
-    let b = bucket_of(&key_at(words, depth), words[2] as usize);
-    let prev = word(words, depth, 3);
+    let depth = words[LOG] as usize;
+    let count = words[RECORDS];
+    let record = Record {
+        words: &words[..],
+        depth,
+    };
+    let size = record.size();
+    let prev = record.word(OLDER);
+    let b = bucket_of(&record.key(), words[BUCKETS] as usize);
     point(words, b, prev, (depth - size) as u32, count - 1);
 }

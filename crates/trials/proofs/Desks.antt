@@ -1,8 +1,8 @@
 -- The desk: made ready, with a cell written, and after a key was asked.
-use Rattle.std.proofs.Common.{◌≡◌, ℕ, zero, suc, ◌+◌, ◌<◌, ◌≤◌, Bool, true, false, T, List, [], ◌∷◌, length, get_or, take, drop, set, sym, refl, ap, ◌∙◌, subst, arith, le→leb}
+use Rattle.std.proofs.Common.{◌≡◌, ℕ, zero, suc, ◌+◌, ◌<◌, ◌≤◌, true, List, [], ◌∷◌, ◌++◌, length, get_or, take, drop, set, sym, refl, ap, ◌∙◌, subst, arith, le→leb}
 use lib.Seq.{take-set-lt}
 use borrow.Rule.Slice.PartMut.{put_mid}
-use Rattle.std.proofs.lemmas.List.{drop-set-lt, drop_all, get_or-take, get_or-drop}
+use Rattle.std.proofs.lemmas.List.{drop-set-lt, drop_all, drop_at, get_or-take, get_or-drop}
 use Rattle.engine.specs.declared.key.Key.{Key}
 use Rattle.engine.specs.Engine.{bring}
 use Rattle.engine.specs.Says.{kept}
@@ -10,25 +10,25 @@ use Rattle.engine.specs.Theorems.{Honest}
 use Rattle.engine.proofs.Promises.{up_to_date, nothing_honest}
 use Rattle.memo.specs.Log.{kept_entries}
 use Rattle.memo.specs.Whether.{memo_ready}
-use Rattle.memo.specs.Says.{Created}
-use Rattle.driver.proofs.Lent.{lent_memo}
-use Rattle.driver.proofs.Regions.{region}
+use Rattle.driver.proofs.Lent.{lent_memo, region}
 use Rattle.trials.specs.Small.{small, cells}
 use Rattle.trials.specs.Desk.{memo_of, entries_of, Ready, answer_of, goes_of}
 use Rattle.trials.proofs.Falling.{small_falls}
 
-pub cleared : (ws v vs0 : List ℕ) (r : Bool) → 8208 ≤ length ws → length ws < 4294967296 → length v ≡ 8192 → Created vs0 v r → (r ≡ true → memo_ready v ≡ true) → T r → Ready (put_mid 16 8192 ws v)
-cleared ws v vs0 false h s l c m t = absurd t
-cleared ws v vs0 true h s l c m t =
+pub cleared : (ws v : List ℕ) → 8208 ≤ length ws → length ws < 4294967296 → length v ≡ 8192 → kept_entries v ≡ [] → memo_ready v ≡ true → Ready (put_mid 16 8192 ws v)
+cleared ws v h s l c m =
     let x = lent_memo 16 8208 ws v l (omega arith) h in
     let e : memo_of (put_mid 16 8192 ws v) ≡ v = region 16 8208 (put_mid 16 8192 ws v) (omega arith) ∙ x.memo1 in
     let n = x.long in
     record {
       long = omega (arith, n, h);
       small1 = omega (arith, n, s);
-      fit = ap memo_ready e ∙ m refl;
-      honest = subst (λ es. Honest small (kept es)) (sym (ap kept_entries e ∙ c.1)) (nothing_honest small);
+      fit = ap memo_ready e ∙ m;
+      honest = subst (λ es. Honest small (kept es)) (sym (ap kept_entries e ∙ c)) (nothing_honest small);
     }
+
+pub cells_set : (ws v : List ℕ) → length v ≡ 16 → memo_of (v ++ drop 16 ws) ≡ memo_of ws
+cells_set ws v l = region 16 8208 (v ++ drop 16 ws) (omega arith) ∙ ap (take 8192) (drop_at v (drop 16 ws) 16 l) ∙ sym (region 16 8208 ws (omega arith))
 
 pub cell_set : (ws : List ℕ) (a v : ℕ) → a < 16 → memo_of (set ws a v) ≡ memo_of ws
 cell_set ws a v h = ap (drop 16) (take-set-lt 8208 ws a v (omega arith)) ∙ drop-set-lt 16 (take 8208 ws) a v (omega arith)

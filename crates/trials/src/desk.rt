@@ -1,14 +1,16 @@
 // The row in which rules are tried: cells, a memo, and room to work in.
-ghost use Rattle.std.specs.Prelude.{◌≡◌, ℕ, ◌<◌, T, length, take, drop, slice_index};
+ghost use Rattle.std.specs.Prelude.{◌≡◌, ℕ, ◌<◌, IfOk, length, take, drop, slice_index};
 ghost use Rattle.trials.specs.Desk.{entries_of, Ready, SaidSays};
 
 use crate::small::{Cells, Small};
 use driver::bring::bring;
 use engine::key::Key;
 use memo::log::create;
+use std::error::Error;
+use std::fmt;
 
-// The words before the memo, and before the room to work in.
-const CELLS: usize = 16;
+// The words before the memo, which are the cells, and before the room to work in.
+pub const CELLS: usize = 16;
 
 const MEMO: usize = 8208;
 
@@ -23,22 +25,41 @@ pub struct Said {
     pub told: u64,
 }
 
+impl fmt::Display for Said {
+    fn fmt<W: fmt::Write>(&self, f: &mut fmt::Formatter<W>) -> fmt::Result {
+        let (first, told) = (self.first, self.told);
+        if self.words == 0 {
+            return write!(f, "nothing, {told} told");
+        }
+        write!(f, "{first}, {told} told")
+    }
+}
+
+// A row that is too short, or too long.
+#[derive(Clone, Copy, PartialEq, Eq, Debug)]
+pub struct BadRow;
+
+impl fmt::Display for BadRow {
+    fn fmt<W: fmt::Write>(&self, f: &mut fmt::Formatter<W>) -> fmt::Result {
+        f.write_str("the row is too short")
+    }
+}
+
+impl Error for BadRow {}
+
 // A row made ready, with nothing kept, if it is long enough and not too long.
-pub fn clear_desk(row: &mut [u32]) -> bool
-    ensures { T result → Ready row.new }
+pub fn clear_desk(row: &mut [u32]) -> Result<(), BadRow>
+    ensures { IfOk result (λ u. Ready row.new) }
 {
-    if row.len() < MEMO {
-        return false;
+    if row.len() < MEMO || row.len() > MOST {
+        return Err(BadRow);
     }
-    if row.len() > MOST {
-        return false;
-    }
-    create(&mut row[CELLS..MEMO])
+    create(&mut row[CELLS..MEMO]).map_err(|_| BadRow)
 }
 
 // A cell's word.
 pub fn set_cell(row: &mut [u32], a: usize, v: u32)
-    requires { (Ready row.old) × (a < 16) }
+    requires { (Ready row.old) × (a < CELLS) }
     ensures ready { Ready row.new }
     ensures entries { entries_of row.new ≡ entries_of row.old }
 {
@@ -50,9 +71,7 @@ pub fn empty_cells(row: &mut [u32])
     requires { Ready row.old }
     ensures { Ready row.new }
 {
-    for a in 0..CELLS {
-        set_cell(row, a, 0);
-    }
+    row[..CELLS].fill(0);
 }
 
 // The first word of an answer of n words, 0 if it has none.
@@ -72,9 +91,7 @@ pub fn ask(row: &mut [u32], k: &Key) -> Option<Said>
     ensures says { SaidSays row.old row.new k.now result }
 {
     let mut rules = Small { told: 0 };
-    let Some(words) = bring(row, CELLS, MEMO, &mut rules, &Cells {}, k) else {
-        return None;
-    };
+    let words = bring(row, CELLS, MEMO, &mut rules, &Cells {}, k)?;
     Some(Said {
         words,
         first: first_word(row, words),

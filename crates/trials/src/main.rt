@@ -8,8 +8,7 @@ mod small;
 
 ghost use Rattle.trials.specs.Desk.{Ready};
 
-use anyhow::anyhow;
-use desk::{Said, ask, clear_desk, empty_cells, set_cell};
+use desk::{CELLS, Said, ask, clear_desk, empty_cells, set_cell};
 use engine::key::Key;
 use scenes::{Step, changes_back, comes_to_be, diamond, early_cutoff, no_room, taken_up_again};
 use std::io;
@@ -21,15 +20,10 @@ const WORDS: usize = 200000;
 // What came of a key.
 fn show<W: Write>(k: &Key, said: Option<Said>, out: &mut W) -> io::Result<()> {
     let (kind, a, b) = (k.kind, k.a, k.b);
-    write!(out, "  {kind} {a} {b}: ")?;
-    let Some(s) = said else {
-        return out.write_all(b"no room\n");
-    };
-    let (first, told) = (s.first, s.told);
-    if s.words == 0 {
-        return write!(out, "nothing, {told} told\n");
+    match said {
+        Some(said) => writeln!(out, "  {kind} {a} {b}: {said}"),
+        None => writeln!(out, "  {kind} {a} {b}: no room"),
     }
-    write!(out, "{first}, {told} told\n")
 }
 
 // A step done.
@@ -39,10 +33,10 @@ fn make<W: Write>(row: &mut [u32], step: Step, out: &mut W) -> io::Result<()>
 {
     match step {
         Step::Put(a, v) => {
-            if a < 16 {
+            if a < CELLS {
                 set_cell(row, a, v);
             }
-            write!(out, "  cell {a} is {v}\n")
+            writeln!(out, "  cell {a} is {v}")
         }
         Step::Ask(kind, a, b) => {
             let k = Key { kind, a, b };
@@ -54,11 +48,8 @@ fn make<W: Write>(row: &mut [u32], step: Step, out: &mut W) -> io::Result<()>
 
 // A trial: its name, and its steps, from a row with nothing kept and all cells empty.
 fn play<W: Write>(row: &mut [u32], name: &str, steps: &[Step], out: &mut W) -> anyhow::Result<()> {
-    out.write_all(name.as_bytes())?;
-    out.write_all(b"\n")?;
-    if !clear_desk(row) {
-        return Err(anyhow!("the row is too short"));
-    }
+    writeln!(out, "{name}")?;
+    clear_desk(row)?;
     empty_cells(row);
     for s in steps {
         make(row, *s, out)?;

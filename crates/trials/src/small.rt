@@ -5,8 +5,19 @@ ghost use Rattle.trials.specs.Small.{small, cells, got_at, sum, below, step, ran
 use engine::key::Key;
 use engine::rules::{Inputs, Rules, Turn};
 
-// What a rule does next: it asks, or it is done, with one word.
-#[derive(Clone, Copy)]
+// The kinds of keys: an input; one of a layer; how many of a layer; a diamond; one cell or another.
+const CELL: u32 = 0;
+
+const LAYER: u32 = 1;
+
+const COUNT: u32 = 2;
+
+const LEVEL: u32 = 3;
+
+const SWITCH: u32 = 4;
+
+// What a rule does next: it asks, or it is done, with one word. Neither is a failure, so it is no Result.
+#[derive(Clone, Copy, PartialEq, Eq, Debug)]
 pub enum Next {
     Ask(Key),
     Done(u32),
@@ -22,7 +33,7 @@ fn got_at(row: &[u32], i: usize) -> u32
     0
 }
 
-// The answers added up.
+// The answers added up. By index, since what the row lacks counts as 0.
 fn add_up(row: &[u32], n: usize) -> u32
     ensures is { result ≡ sum n row.now }
     ensures small1 { result < 65536 }
@@ -40,7 +51,7 @@ fn layer(k: &Key, row: &[u32], n: usize) -> Next
 {
     if n == 0 {
         return Next::Ask(Key {
-            kind: 0,
+            kind: CELL,
             a: k.a,
             b: 0,
         });
@@ -49,7 +60,7 @@ fn layer(k: &Key, row: &[u32], n: usize) -> Next
     if k.b != 0 {
         return Next::Done(v);
     }
-    Next::Done(if v >= 10 { 1 } else { 0 })
+    Next::Done(u32::from(v >= 10))
 }
 
 // How many of the first cells are above 9.
@@ -58,7 +69,7 @@ fn count(k: &Key, row: &[u32], n: usize) -> Next
 {
     if n < k.a as usize {
         return Next::Ask(Key {
-            kind: 1,
+            kind: LAYER,
             a: n as u32,
             b: 0,
         });
@@ -72,13 +83,13 @@ fn lower(l: u32, s: u32) -> Key
 {
     if l == 0 {
         return Key {
-            kind: 1,
+            kind: LAYER,
             a: s,
             b: 1,
         };
     }
     Key {
-        kind: 3,
+        kind: LEVEL,
         a: l - 1,
         b: s,
     }
@@ -100,14 +111,18 @@ fn switch(row: &[u32], n: usize) -> Next
 {
     if n == 0 {
         return Next::Ask(Key {
-            kind: 1,
+            kind: LAYER,
             a: 0,
             b: 1,
         });
     }
     if n == 1 {
         let a = if got_at(row, 0) == 0 { 1 } else { 2 };
-        return Next::Ask(Key { kind: 1, a, b: 1 });
+        return Next::Ask(Key {
+            kind: LAYER,
+            a,
+            b: 1,
+        });
     }
     Next::Done(got_at(row, 1))
 }
@@ -117,10 +132,10 @@ fn does(k: &Key, row: &[u32], n: usize) -> Next
     ensures { NextSays (step k.now.kind k.now.a k.now.b n row.now) result }
 {
     match k.kind {
-        1 => layer(k, row, n),
-        2 => count(k, row, n),
-        3 => level(k, row, n),
-        4 => switch(row, n),
+        LAYER => layer(k, row, n),
+        COUNT => count(k, row, n),
+        LEVEL => level(k, row, n),
+        SWITCH => switch(row, n),
         _ => Next::Done(0),
     }
 }
@@ -130,9 +145,9 @@ fn rank_of(k: &Key) -> u32
     ensures { result ≡ rank_of k.now.kind k.now.a }
 {
     match k.kind {
-        1 => 1,
-        2 | 4 => 2,
-        3 => 2 + k.a % 64,
+        LAYER => 1,
+        COUNT | SWITCH => 2,
+        LEVEL => 2 + k.a % 64,
         _ => 0,
     }
 }
@@ -153,7 +168,7 @@ impl Rules for Small {
     }
 
     fn is_input(&self, k: &Key) -> bool {
-        k.kind == 0
+        k.kind == CELL
     }
 
     fn go(&mut self, k: &Key, words: &mut [u32], at: usize, count: usize) -> Turn {
@@ -180,10 +195,7 @@ fn cell(words: &[u32], known: usize, a: usize) -> u32
     requires { known ≤ length words.now }
     ensures { result ≡ slice_index (take known words.now) a }
 {
-    if a < known {
-        return words[a];
-    }
-    0
+    words[..known].get(a).copied().unwrap_or(0)
 }
 
 impl Inputs for Cells {

@@ -1,19 +1,20 @@
 -- What is proved by hand of create.
-use Rattle.std.proofs.Common.{◌+◌, ◌-◌, ◌/◌, length, set, ap, ◌∙◌, arith, length-set}
-use Rattle.memo.specs.Log.{pointed}
+use Rattle.std.proofs.Common.{◌+◌, ◌-◌, ◌/◌, length, arith}
 use Rattle.memo.proofs.Pops.{empty, empty_buckets}
 use Rattle.memo.proofs.Tests.{ready_from}
 use Rattle.memo.proofs.log.create.Goals as goal
 
-pub returns : goal.returns
-returns c =
+pub returns-clause-says : goal.returns-clause-says
+returns-clause-says c =
+    let ws = c.args.words.now in
+    empty ws (1 + (length ws - 4) / 16) (omega arith) (omega arith) c.empty.new.words c.empty.ensures
+
+pub returns-clause-ready : goal.returns-clause-ready
+returns-clause-ready c =
     let ws = c.args.words.now in
     let b = 1 + (length ws - 4) / 16 in
-    let vs = c.point.new.words in
-    let e = c.point.ensures ∙ ap (λ u. pointed (set u 2 b) 0 0 0 0) c.clear.ensures in
-    let x = empty ws b (omega arith) (omega arith) vs e in
-    let n = empty_buckets ws b (omega arith) vs e in
-    let k1 = c.point.auto.words in
-    let k2 = c.clear.auto.words in
-    let k3 = length-set c.clear.new.words 2 b in
-    record { says = x; ready = λ h. ready_from vs (omega arith) x.0 }
+    let vs = c.empty.new.words in
+    let x = empty ws b (omega arith) (omega arith) vs c.empty.ensures in
+    let n = empty_buckets ws b (omega arith) vs c.empty.ensures in
+    let k = c.empty.auto.words in
+    ready_from vs (omega arith) x.0

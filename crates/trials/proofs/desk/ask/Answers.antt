@@ -9,7 +9,7 @@ bring-requires c = record { row = (lit≤ tt, c.requires.long, c.requires.small1
 
 pub returns : goal.returns
 returns c =
-    let e = c.in-Some.ensures in
+    let e = c.in_ok-words.ensures in
     let l = e.row.0 in
     let a = c.requires.long in
     let b = c.requires.small1 in

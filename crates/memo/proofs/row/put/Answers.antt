@@ -1,7 +1,0 @@
--- What is proved by hand of put.
-use Rattle.std.proofs.Common.{arith}
-use Rattle.memo.proofs.Puts.{putMid_puts}
-use Rattle.memo.proofs.row.put.Goals as goal
-
-pub returns : goal.returns
-returns c = putMid_puts c.args.i _ c.args.words.now c.copy_from_slice.new.self c.args.xs.now c.copy_from_slice.ensures.after (omega arith)
