@@ -1,17 +1,17 @@
--- A file looked up by its name (file_found, file_missing), and the table without the files of a name (drops_others): the loop that takes them
--- out goes by Dropping.
-use Rattle.std.proofs.Common.{◌≡◌, ℕ, zero, suc, ◌+◌, ◌<◌, ◌≤◌, Bool, true, false, eqb, List, [], ◌∷◌, ◌++◌, map, length, get_or, take, drop, set, Some, None, Option as Perhaps, sym, refl, ap, ◌∙◌, subst, append-nil, arith, length-drop, eq-eqb, ne_eqb, eqb-true}
+-- A file looked up by its name (file_found, file_missing), and the table without the files of a name (drops_others).
+use Rattle.std.proofs.Common.{◌≡◌, ℕ, zero, suc, ◌+◌, ◌<◌, Bool, true, false, eqb, List, [], ◌∷◌, map, length, get_or, Some, None, Option as Perhaps, sym, refl, ap, ◌∙◌, subst, arith, eqb-true}
 use mathlib.Core.Option.{some, none}
 use borrow.Author.Tests.{eqb-false}
-use Rattle.std.proofs.lemmas.List.{get_or-set_same, get_or-set_other, length-set, drop-set-lt, drop-set-add, take_more, take_more_set, take_all}
 use Rattle.base.specs.Base.{pick, same}
 use Rattle.semantics.specs.Names.{find_file}
 use Rattle.semantics.specs.Answers.{drops_file}
-use Rattle.store.specs.Lines.{Every}
-use Rattle.store.specs.Index.{bytes, Live}
-use Rattle.store.specs.Files.{file_at, entries, texts, name_at, others, FileOk, FileOfSays, Fits, IndexSays}
-use Rattle.store.proofs.Puts.{same_decides, differs}
-use Rattle.store.proofs.Tables.{entry_is, entries_long, other_name, none_in}
+use Rattle.interner.specs.Lines.{Every}
+use Rattle.interner.specs.Index.{bytes, Live}
+use Rattle.store.specs.Files.{file_at, texts, FileOk, FileOfSays, Fits}
+use Rattle.interner.specs.Places.{entries, name_at, others, DropSays, IndexSays}
+use Rattle.interner.proofs.Places.{entry_is, entries_long, every_others}
+use Rattle.interner.proofs.Puts.{same_decides, differs}
+use Rattle.store.proofs.Tables.{other_name, none_in}
 
 module _ (nb cap : ℕ) (t m : List ℕ) (q : Fits nb cap t m) (name : List ℕ) where
   -- no number stands for the name
@@ -50,51 +50,6 @@ module _ (nb cap : ℕ) (t m : List ℕ) (q : Fits nb cap t m) (name : List ℕ)
     pub drops_others : (t' : List ℕ) → entries t' ≡ others m f (entries t) → texts nb t' m ≡ drops_file name (texts nb t m)
     drops_others t' e = ap (map (file_at nb m)) e ∙ drops_in (entries t) q.all_ok
 
--- one place more
-others_push : (m : List ℕ) (f : ℕ) (es : List ℕ) (p : ℕ) → others m f (es ++ (p ∷ [])) ≡ others m f es ++ pick (eqb (get_or m p 0) f) [] (p ∷ [])
-others_push m f [] p = refl
-others_push m f (x ∷ xs) p = go (eqb (get_or m x 0) f) (others_push m f xs p)
-  where
-    go : (b : Bool) → others m f (xs ++ (p ∷ [])) ≡ others m f xs ++ pick (eqb (get_or m p 0) f) [] (p ∷ []) → pick b (others m f (xs ++ (p ∷ []))) (x ∷ others m f (xs ++ (p ∷ []))) ≡ pick b (others m f xs) (x ∷ others m f xs) ++ pick (eqb (get_or m p 0) f) [] (p ∷ [])
-    go true r = r
-    go false r = ap (λ z. x ∷ z) r
-
-every_others : (P : ℕ → Type 0) (m : List ℕ) (f : ℕ) (es : List ℕ) → Every P es → Every P (others m f es)
-every_others P m f [] e = tt
-every_others P m f (p ∷ ps) (x, e) = go (eqb (get_or m p 0) f) (every_others P m f ps e)
-  where
-    go : (b : Bool) → Every P (others m f ps) → Every P (pick b (others m f ps) (p ∷ others m f ps))
-    go true r = r
-    go false r = (x, r)
-
--- t₀ at the start, t now: of the first k places those of other files stand in front, j of them
-pub record Dropping (t₀ m : List ℕ) (f : ℕ) (t : List ℕ) (k j : ℕ) : Type 0 where
-  pub behind : j ≤ k
-  pub within : k ≤ get_or t₀ 0 0
-  pub long : length t ≡ length t₀
-  pub in_table : 1 + get_or t₀ 0 0 ≤ length t₀
-  pub so_far : take j (drop 1 t) ≡ others m f (take k (entries t₀))
-  pub rest : (i : ℕ) → k ≤ i → get_or t (1 + i) 0 ≡ get_or t₀ (1 + i) 0
-
-pub drop_begins : (t m : List ℕ) (f : ℕ) → 1 + get_or t 0 0 ≤ length t → Dropping t m f t 0 0
-drop_begins t m f h = record { behind = omega arith; within = omega arith; long = refl; in_table = h; so_far = refl; rest = λ i l. refl }
-
-module _ (t₀ m : List ℕ) (f : ℕ) (t : List ℕ) (k j : ℕ) (d : Dropping t₀ m f t k j) (k_in : k < get_or t₀ 0 0) where
-  place_k : get_or (entries t₀) k 0 ≡ get_or t (1 + k) 0
-  place_k = entry_is t₀ k k_in ∙ sym (d.rest k (omega arith))
-
-  more : others m f (take (k + 1) (entries t₀)) ≡ others m f (take k (entries t₀)) ++ pick (eqb (get_or m (get_or t (1 + k) 0) 0) f) [] (get_or t (1 + k) 0 ∷ [])
-  more = ap (others m f) (take_more (entries t₀) k 0 (omega (arith, entries_long t₀ d.in_table))) ∙ others_push m f (take k (entries t₀)) (get_or (entries t₀) k 0) ∙ ap (λ p. others m f (take k (entries t₀)) ++ pick (eqb (get_or m p 0) f) [] (p ∷ [])) place_k
-
-  pub drop_passes : get_or m (get_or t (1 + k) 0) 0 ≡ f → Dropping t₀ m f t (k + 1) j
-  drop_passes e = record { behind = omega (arith, d.behind); within = omega arith; long = d.long; in_table = d.in_table; so_far = sym (more ∙ ap (λ (b : Bool). others m f (take k (entries t₀)) ++ pick b [] (get_or t (1 + k) 0 ∷ [])) (eq-eqb (get_or m (get_or t (1 + k) 0) 0) f e) ∙ append-nil (others m f (take k (entries t₀))) ∙ sym d.so_far); rest = λ i l. d.rest i (omega arith) }
-
-  pub drop_keeps : (get_or m (get_or t (1 + k) 0) 0 ≡ f → ⊥) → Dropping t₀ m f (set t (1 + j) (get_or t (1 + k) 0)) (k + 1) (j + 1)
-  drop_keeps n = let b = d.behind in let l = d.long in let i = d.in_table in record { behind = omega arith; within = omega arith; long = length-set t (1 + j) (get_or t (1 + k) 0) ∙ d.long; in_table = d.in_table; so_far = ap (take (j + 1)) (drop-set-add 1 t j (get_or t (1 + k) 0)) ∙ take_more_set (drop 1 t) j (get_or t (1 + k) 0) (omega (arith, length-drop 1 t)) ∙ ap (λ z. z ++ (get_or t (1 + k) 0 ∷ [])) d.so_far ∙ sym (more ∙ ap (λ (b : Bool). others m f (take k (entries t₀)) ++ pick b [] (get_or t (1 + k) 0 ∷ [])) (ne_eqb (get_or m (get_or t (1 + k) 0) 0) f n)); rest = λ i g. get_or-set_other t (1 + j) (1 + i) (get_or t (1 + k) 0) 0 (omega arith) ∙ d.rest i (omega arith) }
-
-pub drop_ends : (nb cap : ℕ) (t₀ m : List ℕ) (f : ℕ) (t : List ℕ) (k j : ℕ) → Fits nb cap t₀ m → Dropping t₀ m f t k j → get_or t₀ 0 0 ≤ k → Fits nb cap (set t 0 j) m × (entries (set t 0 j) ≡ others m f (entries t₀))
-drop_ends nb cap t₀ m f t k j q d h =
-    let b = d.behind in let w = d.within in let l = d.long in let i = d.in_table in
-    let g : get_or (set t 0 j) 0 0 ≡ j = get_or-set_same t 0 j 0 (omega arith) in
-    let e : entries (set t 0 j) ≡ others m f (entries t₀) = ap (λ n. take n (drop 1 (set t 0 j))) g ∙ ap (take j) (drop-set-lt 1 t 0 j (omega arith)) ∙ d.so_far ∙ ap (others m f) (take_all k (entries t₀) (omega (arith, entries_long t₀ q.in_table))) in
-    (record { sound = q.sound; in_table = omega (arith, length-set t 0 j, g); all_ok = subst (Every (FileOk nb cap m)) (sym e) (every_others (FileOk nb cap m) m f (entries t₀) q.all_ok) }, e)
+-- the table without them
+pub left_fit : (nb cap : ℕ) (t m : List ℕ) (f : ℕ) (t' : List ℕ) → Fits nb cap t m → DropSays t m f t' → Fits nb cap t' m
+left_fit nb cap t m f t' q d = record { sound = q.sound; in_table = d.in_table; all_ok = subst (Every (FileOk nb cap m)) (sym d.left) (every_others (FileOk nb cap m) m f (entries t) q.all_ok) }

@@ -1,14 +1,16 @@
 -- Numbers kept in the fresh row with their bytes, and files moved to it one after the other.
-use Rattle.std.proofs.Common.{◌≡◌, ℕ, ◌+◌, ◌<◌, ◌≤◌, Bool, true, false, List, [], ◌∷◌, ◌++◌, map, length, get_or, take, drop, set, sym, refl, ap, ◌∙◌, subst, inl, inr, arith}
+use Rattle.std.proofs.Common.{◌≡◌, ℕ, ◌+◌, ◌<◌, ◌≤◌, List, [], ◌∷◌, ◌++◌, map, length, get_or, take, drop, set, sym, refl, ap, ◌∙◌, subst, inl, inr, arith, Ok, Err, Result}
 use Rattle.std.proofs.lemmas.List.{take_more, take_all, map_push, get_or-set_same, length-set}
-use Rattle.store.specs.Files.{texts, file_at, entries, file_is, FileOk, Fits, NoMore, PushSays}
-use Rattle.store.specs.Index.{count, end, place, bytes_at, bytes, Sound, Live}
-use Rattle.store.specs.Interner.{CanAdd, Added}
-use Rattle.store.specs.Lines.{joined, Every}
-use Rattle.store.specs.Reclaim.{Blank, Part, Kept, AllKept, Moved, MoveSays, SameTexts}
-use Rattle.store.proofs.Tables.{still, entry_is, entries_long}
-use Rattle.store.proofs.Joined.{map_same}
-use Rattle.store.proofs.Numbering.{every_still, every_push, pooled_on}
+use Rattle.store.specs.Files.{texts, file_at, file_is, FileOk, Fits, PushSays}
+use Rattle.interner.specs.Places.{entries}
+use Rattle.interner.specs.declared.refused.NoRoom.{NoRoom}
+use Rattle.interner.specs.Index.{count, end, place, bytes_at, bytes, NoMore, Sound, Live}
+use Rattle.interner.specs.Interner.{CanAdd, Added, Blank}
+use Rattle.interner.specs.Lines.{joined, Every}
+use Rattle.store.specs.Reclaim.{Part, Kept, AllKept, Moved, MoveSays, SameTexts}
+use Rattle.store.proofs.Tables.{still}
+use Rattle.interner.proofs.Joined.{map_same}
+use Rattle.interner.proofs.Lists.{every_still, every_push, pooled_on}
 
 module _ (nb cap : ℕ) (m w : List ℕ) (n : ℕ) (s : Sound nb cap m) (l : Live nb m n) (p : Part nb cap m w) where
   pub there : 0 < place nb w n → Kept nb cap m w w n
@@ -42,9 +44,9 @@ module _ (nb cap : ℕ) (m t w w₁ w₂ : List ℕ) (p : ℕ) (ok : FileOk nb c
   same_file : file_is nb w₂ (get_or m p 0) (bytes_at m (p + 1)) ≡ file_at nb m p
   same_file = ap (λ x. record { name = x; text = joined (map (bytes nb w₂) (bytes_at m (p + 1))) }) (a.part.of_m (get_or m p 0) f_live).1 ∙ ap (λ ls. record { name = bytes nb m (get_or m p 0); text = joined ls }) (map_same (bytes nb w₂) (bytes nb m) (Live nb w₂) (bytes_at m (p + 1)) (λ j x. (a.part.of_m j x).1) a.live)
 
-  pub moves : (t' w' : List ℕ) → Fits nb cap t' w' → NoMore nb w₂ w' → (r : Bool) → PushSays nb t w₂ (get_or m p 0) (bytes_at m (p + 1)) t' w' r → MoveSays nb cap m t w t' w' p r
-  moves t' w' f n true h = record { part = record { sound = f.sound; counts = n.counts ∙ a.part.counts; of_m = λ j x. let y = n.only j x in let z = a.part.of_m j y.0 in (z.0, y.1 ∙ z.1) }; filed = f; more = h ∙ ap (λ z. texts nb t w₂ ++ (z ∷ [])) same_file ∙ ap (λ z. z ++ (file_at nb m p ∷ [])) two_still.1 }
-  moves t' w' f n false h = tt
+  pub moves : (t' w' : List ℕ) → Fits nb cap t' w' → NoMore nb w₂ w' → (r : Result (Unit {0}) NoRoom) → PushSays nb t w₂ (get_or m p 0) (bytes_at m (p + 1)) t' w' r → MoveSays nb cap m t w t' w' p r
+  moves t' w' f n (Ok u) h = record { part = record { sound = f.sound; counts = n.counts ∙ a.part.counts; of_m = λ j x. let y = n.only j x in let z = a.part.of_m j y.0 in (z.0, y.1 ∙ z.1) }; filed = f; more = h ∙ ap (λ z. texts nb t w₂ ++ (z ∷ [])) same_file ∙ ap (λ z. z ++ (file_at nb m p ∷ [])) two_still.1 }
+  moves t' w' f n (Err e) h = tt
 
 -- the first k files stand in w
 pub record Moving (nb cap : ℕ) (t m t₂ w : List ℕ) (k : ℕ) : Type 0 where
@@ -52,11 +54,11 @@ pub record Moving (nb cap : ℕ) (t m t₂ w : List ℕ) (k : ℕ) : Type 0 wher
   pub filed : Fits nb cap t₂ w
   pub so_far : texts nb t₂ w ≡ map (file_at nb m) (take k (entries t))
 
-pub moving_on : (nb cap : ℕ) (t m t₂ w t₃ w' : List ℕ) (k : ℕ) → Fits nb cap t m → k < get_or t 0 0 → Moving nb cap t m t₂ w k → Moved nb cap m t₂ w t₃ w' (get_or t (1 + k) 0) → Moving nb cap t m t₃ w' (k + 1)
-moving_on nb cap t m t₂ w t₃ w' k q h g v = record { part = v.part; filed = v.filed; so_far = v.more ∙ ap (λ z. z ++ (file_at nb m (get_or t (1 + k) 0) ∷ [])) g.so_far ∙ ap (λ z. map (file_at nb m) (take k (entries t)) ++ (file_at nb m z ∷ [])) (sym (entry_is t k h)) ∙ sym (ap (map (file_at nb m)) (take_more (entries t) k 0 (omega (arith, entries_long t q.in_table))) ∙ map_push (file_at nb m) (take k (entries t)) (get_or (entries t) k 0)) }
+pub moving_on : (nb cap : ℕ) (t m t₂ w t₃ w' : List ℕ) (k p : ℕ) → k < length (entries t) → p ≡ get_or (entries t) k 0 → Moving nb cap t m t₂ w k → Moved nb cap m t₂ w t₃ w' p → Moving nb cap t m t₃ w' (k + 1)
+moving_on nb cap t m t₂ w t₃ w' k p h e g v = record { part = v.part; filed = v.filed; so_far = v.more ∙ ap (λ z. z ++ (file_at nb m p ∷ [])) g.so_far ∙ ap (λ z. map (file_at nb m) (take k (entries t)) ++ (file_at nb m z ∷ [])) e ∙ sym (ap (map (file_at nb m)) (take_more (entries t) k 0 h) ∙ map_push (file_at nb m) (take k (entries t)) (get_or (entries t) k 0)) }
 
-pub moved_all : (nb cap : ℕ) (t m t₂ w : List ℕ) (k : ℕ) → Fits nb cap t m → get_or t 0 0 ≤ k → Moving nb cap t m t₂ w k → SameTexts nb cap t m t₂ w
-moved_all nb cap t m t₂ w k q h g = record { part = g.part; filed = g.filed; same = g.so_far ∙ ap (map (file_at nb m)) (take_all k (entries t) (omega (arith, entries_long t q.in_table))) }
+pub moved_all : (nb cap : ℕ) (t m t₂ w : List ℕ) (k : ℕ) → length (entries t) ≤ k → Moving nb cap t m t₂ w k → SameTexts nb cap t m t₂ w
+moved_all nb cap t m t₂ w k h g = record { part = g.part; filed = g.filed; same = g.so_far ∙ ap (map (file_at nb m)) (take_all k (entries t) h) }
 
 -- a fresh row and an empty table
 pub empty_fits : (nb cap : ℕ) (t w : List ℕ) → Sound nb cap w → 0 < length t → Fits nb cap (set t 0 0) w × (texts nb (set t 0 0) w ≡ [])

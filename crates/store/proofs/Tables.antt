@@ -1,37 +1,23 @@
 -- The table of files: a file replaced, a file more (replaced, pushed), and what that puts into the texts (put_there, put_last).
-use Rattle.std.proofs.Common.{◌≡◌, ℕ, zero, suc, ◌+◌, ◌<◌, ◌≤◌, Bool, true, false, List, [], ◌∷◌, ◌++◌, map, length, get_or, take, drop, set, sym, refl, ap, ◌∙◌, subst, arith, length-drop}
+use Rattle.std.proofs.Common.{◌≡◌, ℕ, zero, suc, ◌+◌, ◌<◌, List, [], ◌∷◌, ◌++◌, map, length, get_or, set, sym, refl, ap, ◌∙◌, subst, arith, Ok, Err, Result}
 use mathlib.Core.Option.{some, none}
-use Rattle.std.proofs.lemmas.List.{get_or-set_same, get_or-set_other, length-set, get_or-take, get_or-drop, length-take-le, drop-set-lt, drop-set-add, map-set, map_push, take_more_set}
+use Rattle.std.proofs.lemmas.List.{get_or-set_same, get_or-set_other, length-set, map-set, map_push}
 use Rattle.base.specs.Base.{pick}
 use Rattle.semantics.specs.Answers.{puts_file}
 use Rattle.semantics.specs.Names.{find_file}
-use Rattle.store.specs.Files.{file_at, entries, texts, FileOk, Fits, Appended, file_is, name_at, ReplaceSays, PushSays, PutSays}
-use Rattle.store.specs.Index.{bytes, Sound, Live, Grown, Pooled}
-use Rattle.store.specs.Interner.{Interned, Numbered}
-use Rattle.store.specs.Lines.{bodies, joined, Every}
+use Rattle.store.specs.Files.{file_at, texts, FileOk, Fits, Appended, file_is, ReplaceSays, PushSays, PutSays}
+use Rattle.interner.specs.Places.{entries, name_at, Placed}
+use Rattle.interner.specs.declared.refused.NoRoom.{NoRoom}
+use Rattle.interner.specs.Index.{bytes, Sound, Live, Grown, Pooled}
+use Rattle.interner.specs.Interner.{Interned}
+use Rattle.interner.specs.Numbers.{Numbered}
+use Rattle.interner.specs.Lines.{bodies, joined, Every}
 use Rattle.lexer.specs.Tokens.{lines}
-use Rattle.store.proofs.Joined.{joined_lines}
-use Rattle.store.proofs.Puts.{First, puts_set, puts_new, differs}
-use Rattle.store.proofs.Numbering.{every_push}
-use Rattle.store.proofs.Records.{files_still, new_file, new_ok, every_set, every_at}
-
-take_set_in : (n : ℕ) (l : List ℕ) (k p : ℕ) → take n (set l k p) ≡ set (take n l) k p
-take_set_in zero l k p = refl
-take_set_in (suc n) [] k p = refl
-take_set_in (suc n) (x ∷ xs) zero p = refl
-take_set_in (suc n) (x ∷ xs) (suc k) p = ap (λ r. x ∷ r) (take_set_in n xs k p)
-
-pub entries_set : (t : List ℕ) (k p : ℕ) → entries (set t (1 + k) p) ≡ set (entries t) k p
-entries_set t k p = ap (λ n. take n (drop 1 (set t (1 + k) p))) (get_or-set_other t (1 + k) 0 p 0 (omega arith)) ∙ ap (take (get_or t 0 0)) (drop-set-add 1 t k p) ∙ take_set_in (get_or t 0 0) (drop 1 t) k p
-
-pub entries_push : (t : List ℕ) (p : ℕ) → 1 + get_or t 0 0 < length t → entries (set (set t (1 + get_or t 0 0) p) 0 (get_or t 0 0 + 1)) ≡ entries t ++ (p ∷ [])
-entries_push t p h = ap (λ n. take n (drop 1 (set (set t (1 + get_or t 0 0) p) 0 (get_or t 0 0 + 1)))) (get_or-set_same (set t (1 + get_or t 0 0) p) 0 (get_or t 0 0 + 1) 0 (omega (arith, length-set t (1 + get_or t 0 0) p))) ∙ ap (take (get_or t 0 0 + 1)) (drop-set-lt 1 (set t (1 + get_or t 0 0) p) 0 (get_or t 0 0 + 1) (omega arith) ∙ drop-set-add 1 t (get_or t 0 0) p) ∙ take_more_set (drop 1 t) (get_or t 0 0) p (omega (arith, length-drop 1 t))
-
-pub entry_is : (t : List ℕ) (k : ℕ) → k < get_or t 0 0 → get_or (entries t) k 0 ≡ get_or t (1 + k) 0
-entry_is t k h = get_or-take (get_or t 0 0) (drop 1 t) k 0 h ∙ get_or-drop 1 t k 0
-
-pub entries_long : (t : List ℕ) → 1 + get_or t 0 0 ≤ length t → length (entries t) ≡ get_or t 0 0
-entries_long t h = length-take-le (get_or t 0 0) (drop 1 t) (omega (arith, length-drop 1 t))
+use Rattle.interner.proofs.Joined.{joined_lines}
+use Rattle.interner.proofs.Puts.{First, puts_set, puts_new, differs}
+use Rattle.interner.proofs.Lists.{every_push, every_set, every_at}
+use Rattle.interner.proofs.Places.{entries_set, entries_push, entry_is, entries_long, placed}
+use Rattle.store.proofs.Records.{files_still, new_file, new_ok}
 
 module _ (nb cap : ℕ) (t m : List ℕ) (q : Fits nb cap t m) where
   pub still : (m' : List ℕ) → Sound nb cap m' → length m' ≡ length m → Grown nb m m' → Pooled nb cap m m' → Fits nb cap t m' × (texts nb t m' ≡ texts nb t m)
@@ -43,8 +29,8 @@ module _ (nb cap : ℕ) (t m : List ℕ) (q : Fits nb cap t m) where
   pub pushed : (m' ns : List ℕ) (f p : ℕ) → 1 + get_or t 0 0 < length t → Live nb m f → Every (Live nb m) ns → Appended nb cap m f ns m' p → Fits nb cap (set (set t (1 + get_or t 0 0) p) 0 (get_or t 0 0 + 1)) m' × (texts nb (set (set t (1 + get_or t 0 0) p) 0 (get_or t 0 0 + 1)) m' ≡ texts nb t m ++ (file_is nb m f ns ∷ []))
   pushed m' ns f p h lf ln a = let x = files_still nb cap m m' q.sound a.long a.grown a.pooled (entries t) q.all_ok in (record { sound = a.sound; in_table = omega (arith, length-set t (1 + get_or t 0 0) p, length-set (set t (1 + get_or t 0 0) p) 0 (get_or t 0 0 + 1), get_or-set_same (set t (1 + get_or t 0 0) p) 0 (get_or t 0 0 + 1) 0 (omega (arith, length-set t (1 + get_or t 0 0) p))); all_ok = subst (Every (FileOk nb cap m')) (sym (entries_push t p h)) (every_push (FileOk nb cap m') (entries t) p x.1 (new_ok nb cap m m' ns f p q.sound a lf ln)) }, ap (map (file_at nb m')) (entries_push t p h) ∙ map_push (file_at nb m') (entries t) p ∙ ap (λ z. map (file_at nb m') (entries t) ++ (z ∷ [])) (new_file nb cap m m' ns f p q.sound a lf ln) ∙ ap (λ z. z ++ (file_is nb m f ns ∷ [])) x.0)
 
-  pub record_in : (k : ℕ) → k < get_or t 0 0 → get_or t (1 + k) 0 < length m
-  record_in k h = let x = every_at (FileOk nb cap m) (entries t) k (omega (arith, entries_long t q.in_table)) q.all_ok in omega (arith, entry_is t k h, x.to_end, q.sound.pool_to)
+  pub in_words : Placed t m
+  in_words = placed t m (FileOk nb cap m) (λ p x. omega (arith, x.to_end, q.sound.pool_to)) q.in_table q.all_ok
 
   -- names are numbers
   module _ (f : ℕ) (name : List ℕ) (lf : Live nb m f) (is_name : bytes nb m f ≡ name) where
@@ -92,10 +78,10 @@ module _ (nb cap : ℕ) (t m name text m₁ m₂ : List ℕ) (f : ℕ) (q : Fits
   ready ns n = let x = stopped (n.sound, n.grown, n.pooled, n.long) in let g = n.grown f i.live in record { filed = x.0; as_before = x.1; live = g.0; named = g.1 ∙ i.bytes_n; all_live = n.live; lines_are = n.lines_are }
 
 module _ (nb cap : ℕ) (t m name text m₂ ns : List ℕ) (f : ℕ) (y : Ready nb cap t m name text m₂ ns f) (t' m' : List ℕ) where
-  pub put_there : (k : ℕ) → (k < get_or t 0 0) × (name_at t m₂ k ≡ f) × ((j : ℕ) → j < k → name_at t m₂ j ≡ f → ⊥) → (r : Bool) → ReplaceSays nb t m₂ k f ns t' m' r → PutSays name text (texts nb t m) (texts nb t' m') r
-  put_there k x true h = h ∙ ap (λ z. set (texts nb t m₂) k z) (file_named nb cap t m₂ y.filed f name y.live y.named ns text y.lines_are) ∙ puts_there nb cap t m₂ y.filed f name y.live y.named text k x ∙ ap (puts_file name text) y.as_before
-  put_there k x false h = h ∙ y.as_before
+  pub put_there : (k : ℕ) → (k < get_or t 0 0) × (name_at t m₂ k ≡ f) × ((j : ℕ) → j < k → name_at t m₂ j ≡ f → ⊥) → (r : Result (Unit {0}) NoRoom) → ReplaceSays nb t m₂ k f ns t' m' r → PutSays name text (texts nb t m) (texts nb t' m') r
+  put_there k x (Ok u) h = h ∙ ap (λ z. set (texts nb t m₂) k z) (file_named nb cap t m₂ y.filed f name y.live y.named ns text y.lines_are) ∙ puts_there nb cap t m₂ y.filed f name y.live y.named text k x ∙ ap (puts_file name text) y.as_before
+  put_there k x (Err e) h = h ∙ y.as_before
 
-  pub put_last : ((j : ℕ) → j < get_or t 0 0 → name_at t m₂ j ≡ f → ⊥) → (r : Bool) → PushSays nb t m₂ f ns t' m' r → PutSays name text (texts nb t m) (texts nb t' m') r
-  put_last x true h = h ∙ ap (λ z. texts nb t m₂ ++ (z ∷ [])) (file_named nb cap t m₂ y.filed f name y.live y.named ns text y.lines_are) ∙ puts_last nb cap t m₂ y.filed f name y.live y.named text x ∙ ap (puts_file name text) y.as_before
-  put_last x false h = h ∙ y.as_before
+  pub put_last : ((j : ℕ) → j < get_or t 0 0 → name_at t m₂ j ≡ f → ⊥) → (r : Result (Unit {0}) NoRoom) → PushSays nb t m₂ f ns t' m' r → PutSays name text (texts nb t m) (texts nb t' m') r
+  put_last x (Ok u) h = h ∙ ap (λ z. texts nb t m₂ ++ (z ∷ [])) (file_named nb cap t m₂ y.filed f name y.live y.named ns text y.lines_are) ∙ puts_last nb cap t m₂ y.filed f name y.live y.named text x ∙ ap (puts_file name text) y.as_before
+  put_last x (Err e) h = h ∙ y.as_before

@@ -1,6 +1,6 @@
 -- What a file costs in words, in its weight: two words a byte and some.
 use Rattle.std.proofs.Common.{ℕ, ◌+◌, ◌*◌, ◌≤◌, List, [], ◌∷◌, length, arith, length-append}
-use Rattle.store.specs.Lines.{tails, joined}
+use Rattle.interner.specs.Lines.{tails, joined}
 
 -- a line: its length and its bytes in the pool, and its number in the file's record
 abbrev pub costs : List (List ℕ) → ℕ

@@ -6,13 +6,15 @@
 --                                                    2 ..               their numbers
 --
 -- A file that changes gets a new record; the old one, and lines that no file has, are garbage until all is moved to a fresh row.
-use Rattle.std.specs.Prelude.{◌≡◌, ℕ, ◌+◌, ◌<◌, ◌≤◌, Bool, true, false, List, [], ◌∷◌, ◌++◌, map, length, take, drop, Some, None, Option as Perhaps, ◌==◌, ◌≢◌, slice_index, slice_index_or, slice_set}
+use Rattle.std.specs.Prelude.{◌≡◌, ℕ, ◌+◌, ◌<◌, ◌≤◌, Bool, List, [], ◌∷◌, ◌++◌, map, length, Some, None, Option as Perhaps, Ok, Err, Result, slice_index, slice_index_or, slice_set}
 use Rattle.std.proofs.Math.Option.{some, none}
-use Rattle.base.specs.Base.{pick, is_some}
+use Rattle.base.specs.Base.{is_some}
 use Rattle.semantics.specs.Names.{File, Texts, find_file}
 use Rattle.semantics.specs.Answers.{puts_file, drops_file}
-use Rattle.store.specs.Lines.{joined, Every}
-use Rattle.store.specs.Index.{count, end, pool, bytes_at, bytes, Sound, Live, Grown, Pooled}
+use Rattle.interner.specs.Lines.{joined, Every}
+use Rattle.interner.specs.Index.{end, pool, bytes_at, bytes, Sound, Live, Grown, Pooled, NoMore}
+use Rattle.interner.specs.Places.{entries, name_at}
+use Rattle.interner.specs.declared.refused.NoRoom.{NoRoom}
 
 -- a file of that name with those lines, both by number
 abbrev pub file_is : ℕ → List ℕ → ℕ → List ℕ → File
@@ -22,10 +24,7 @@ file_is nb m f ns = record { name = bytes nb m f; text = joined (map (bytes nb m
 abbrev pub file_at : ℕ → List ℕ → ℕ → File
 file_at nb m p = file_is nb m (slice_index m p) (bytes_at m (p + 1))
 
--- the places in the table, and the texts that it stands for
-abbrev pub entries : List ℕ → List ℕ
-entries t = take (slice_index t 0) (drop 1 t)
-
+-- the texts that the table stands for
 abbrev pub texts : ℕ → List ℕ → List ℕ → Texts
 texts nb t m = map (file_at nb m) (entries t)
 
@@ -42,11 +41,6 @@ pub record Fits (nb cap : ℕ) (t m : List ℕ) : Type 0 where
   pub in_table : 1 + slice_index t 0 ≤ length t
   pub all_ok : Every (FileOk nb cap m) (entries t)
 
--- no more numbers than before
-pub record NoMore (nb : ℕ) (m m' : List ℕ) : Type 0 where
-  pub counts : count m' ≡ count m
-  pub only : (k : ℕ) → Live nb m' k → Live nb m k × (bytes nb m' k ≡ bytes nb m k)
-
 -- a record behind all else in the pool
 pub record Appended (nb cap : ℕ) (m : List ℕ) (name : ℕ) (ns m' : List ℕ) (p : ℕ) : Type 0 where
   pub place_is : p ≡ end m
@@ -60,41 +54,28 @@ pub record Appended (nb cap : ℕ) (m : List ℕ) (name : ℕ) (ns m' : List ℕ
   pub long : length m' ≡ length m
   pub end_is : end m' ≡ end m + 2 + length ns
 
-abbrev pub AppendSays : ℕ → ℕ → List ℕ → ℕ → List ℕ → List ℕ → Perhaps ℕ → Type 0
-AppendSays nb cap m name ns m' (Some p) = Appended nb cap m name ns m' p
-AppendSays nb cap m name ns m' None = (m' ≡ m) × (length m < end m + 2 + length ns)
+abbrev pub AppendSays : ℕ → ℕ → List ℕ → ℕ → List ℕ → List ℕ → Result ℕ NoRoom → Type 0
+AppendSays nb cap m name ns m' (Ok p) = Appended nb cap m name ns m' p
+AppendSays nb cap m name ns m' (Err e) = (m' ≡ m) × (length m < end m + 2 + length ns)
 
 -- other lines for file k; one more file; or, for want of room, the texts that were
-abbrev pub ReplaceSays : ℕ → List ℕ → List ℕ → ℕ → ℕ → List ℕ → List ℕ → List ℕ → Bool → Type 0
-ReplaceSays nb t m k f ns t' m' true = texts nb t' m' ≡ slice_set (texts nb t m) k (file_is nb m f ns)
-ReplaceSays nb t m k f ns t' m' false = texts nb t' m' ≡ texts nb t m
+abbrev pub ReplaceSays : ℕ → List ℕ → List ℕ → ℕ → ℕ → List ℕ → List ℕ → List ℕ → Result (Unit {0}) NoRoom → Type 0
+ReplaceSays nb t m k f ns t' m' (Ok u) = texts nb t' m' ≡ slice_set (texts nb t m) k (file_is nb m f ns)
+ReplaceSays nb t m k f ns t' m' (Err e) = texts nb t' m' ≡ texts nb t m
 
-abbrev pub PushSays : ℕ → List ℕ → List ℕ → ℕ → List ℕ → List ℕ → List ℕ → Bool → Type 0
-PushSays nb t m f ns t' m' true = texts nb t' m' ≡ texts nb t m ++ (file_is nb m f ns ∷ [])
-PushSays nb t m f ns t' m' false = texts nb t' m' ≡ texts nb t m
+abbrev pub PushSays : ℕ → List ℕ → List ℕ → ℕ → List ℕ → List ℕ → List ℕ → Result (Unit {0}) NoRoom → Type 0
+PushSays nb t m f ns t' m' (Ok u) = texts nb t' m' ≡ texts nb t m ++ (file_is nb m f ns ∷ [])
+PushSays nb t m f ns t' m' (Err e) = texts nb t' m' ≡ texts nb t m
 
 -- a file has this text from now on
-abbrev pub PutSays : List ℕ → List ℕ → Texts → Texts → Bool → Type 0
-PutSays name text p q true = q ≡ puts_file name text p
-PutSays name text p q false = q ≡ p
-
--- the file whose name has the number f
-abbrev pub name_at : List ℕ → List ℕ → ℕ → ℕ
-name_at t m k = slice_index m (slice_index t (1 + k))
-
-abbrev pub IndexSays : List ℕ → List ℕ → ℕ → Perhaps ℕ → Type 0
-IndexSays t m f (Some k) = (k < slice_index t 0) × (name_at t m k ≡ f) × ((j : ℕ) → j < k → name_at t m j ≢ f)
-IndexSays t m f None = (j : ℕ) → j < slice_index t 0 → name_at t m j ≢ f
+abbrev pub PutSays : List ℕ → List ℕ → Texts → Texts → Result (Unit {0}) NoRoom → Type 0
+PutSays name text p q (Ok u) = q ≡ puts_file name text p
+PutSays name text p q (Err e) = q ≡ p
 
 -- the file of a name, if it is open
 abbrev pub FileOfSays : ℕ → List ℕ → List ℕ → List ℕ → Perhaps ℕ → Type 0
 FileOfSays nb t m name (Some k) = (k < slice_index t 0) × (bytes nb m (name_at t m k) ≡ name) × (find_file (texts nb t m) name ≡ some (file_at nb m (slice_index t (1 + k))))
 FileOfSays nb t m name None = find_file (texts nb t m) name ≡ none
-
--- the places without those of files whose name has the number f
-abbrev pub others : List ℕ → ℕ → List ℕ → List ℕ
-others m f [] = []
-others m f (p ∷ ps) = pick (slice_index m p == f) (others m f ps) (p ∷ others m f ps)
 
 -- a file is closed: whether it was open
 abbrev pub CloseSays : List ℕ → Texts → Texts → Bool → Type 0

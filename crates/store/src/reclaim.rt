@@ -1,27 +1,28 @@
 // A fresh row: an empty store, and the texts of another moved to it, without what no file has and under the same numbers.
-ghost use Rattle.std.specs.Prelude.{◌≡◌, ◌+◌, ◌*◌, ◌<◌, ◌≤◌, true, false, [], length};
+ghost use Rattle.std.specs.Prelude.{◌≡◌, []};
+ghost use Rattle.interner.specs.Index.{Live, Sound};
+ghost use Rattle.interner.specs.Lines.{Every};
 ghost use Rattle.store.specs.Files.{texts, FileOk, Fits};
-ghost use Rattle.store.specs.Index.{Live, Sound};
-ghost use Rattle.store.specs.Lines.{Every};
-ghost use Rattle.store.specs.Reclaim.{Blank, CreateSays, KeepAllSays, KeepSays, MoveSays, Part, ReclaimSays, Roomy};
+ghost use Rattle.store.specs.Reclaim.{CreateSays, KeepAllSays, KeepSays, MoveSays, Part, ReclaimSays, RoomySays};
 
 use crate::files::push_file;
-use crate::interner::add;
-use crate::row::{bytes_from, place_of};
+use crate::view::View;
+use interner::index::Sizes;
+use interner::records::places;
+use interner::refused::NoRoom;
+use interner::row::bytes_from;
 
 // How many words a row may have: a place has to fit in a word.
 const MOST_WORDS: usize = 4294967295;
 
 // A store without files; or none, where the words don't do for so many buckets and numbers.
-pub fn create(files: &mut [u32], words: &mut [u32], buckets: usize, cap: usize) -> bool
-    ensures { CreateSays buckets cap files.old words.old files.new words.new result }
+pub fn create(files: &mut [u32], words: &mut [u32], sizes: Sizes) -> Result<(), NoRoom>
+    ensures { CreateSays sizes.buckets sizes.cap files.old words.old files.new words.new result }
 {
-    if !roomy(files, words, buckets, cap) {
-        return false;
-    }
-    clear(words, buckets, cap, 1);
+    roomy(files, words, sizes)?;
+    sizes.clear(words, 1);
     files[0] = 0;
-    true
+    Ok(())
 }
 
 // The texts of one store in another, under the same numbers and without what no file has; or not, for want of room. What was in the other
@@ -31,115 +32,84 @@ pub fn reclaim(
     words: &[u32],
     table: &mut [u32],
     row: &mut [u32],
-    buckets: usize,
-    cap: usize,
-) -> bool
-    requires { Fits buckets cap files.now words.now }
-    ensures { ReclaimSays buckets cap files.now words.now table.new row.new result }
+    sizes: Sizes,
+) -> Result<(), NoRoom>
+    requires { Fits sizes.buckets sizes.cap files.now words.now }
+    ensures { ReclaimSays sizes.buckets sizes.cap files.now words.now table.new row.new result }
 {
-    if !roomy(table, row, buckets, cap) {
-        return false;
-    }
-    clear(row, buckets, cap, words[0]);
+    roomy(table, row, sizes)?;
+    sizes.clear(row, words[0]);
     table[0] = 0;
-    move_all(files, words, table, row, buckets, cap)
+    let from = View {
+        files,
+        words,
+        sizes,
+    };
+    move_all(from, table, row)
 }
 
-// Whether words and a table do for so many buckets and numbers.
-fn roomy(files: &[u32], words: &[u32], buckets: usize, cap: usize) -> bool
-    ensures yes { result ≡ true → Roomy buckets cap files.now words.now }
-    ensures other { result ≡ false → Roomy buckets cap files.now words.now → ⊥ }
+// Words and a table do for so many buckets and numbers; or not.
+fn roomy(files: &[u32], words: &[u32], sizes: Sizes) -> Result<(), NoRoom>
+    ensures { RoomySays sizes.buckets sizes.cap files.now words.now result }
 {
-    if words.len() > MOST_WORDS || buckets > words.len() || cap > words.len() {
-        return false;
+    let Sizes { buckets, cap } = sizes;
+    let most = words.len();
+    if most > MOST_WORDS || buckets > most || cap > most || 2 + buckets + 2 * cap > most {
+        return Err(NoRoom);
     }
-    buckets > 0 && cap > 0 && files.len() > 0 && 2 + buckets + 2 * cap <= words.len()
-}
-
-// A row in which no number is used yet, of so many.
-fn clear(words: &mut [u32], buckets: usize, cap: usize, total: u32)
-    requires { (0 < buckets) × ((0 < total) × ((total ≤ cap) × ((2 + buckets + 2 * cap ≤ length words.old) × (length words.old < 4294967296)))) }
-    ensures { Blank buckets cap total words.new }
-{
-    words.fill(0);
-    words[0] = total;
-    words[1] = (2 + buckets + 2 * cap) as u32;
+    if buckets == 0 || cap == 0 || files.len() == 0 {
+        return Err(NoRoom);
+    }
+    Ok(())
 }
 
 // All files, one after the other, to a row that has some of the numbers and a table that has no file yet.
-fn move_all(
-    files: &[u32],
-    words: &[u32],
-    table: &mut [u32],
-    row: &mut [u32],
-    buckets: usize,
-    cap: usize,
-) -> bool
-    requires { (Fits buckets cap files.now words.now) × ((Part buckets cap words.now row.old) × ((Fits buckets cap table.old row.old) × (texts buckets table.old row.old ≡ []))) }
-    ensures { ReclaimSays buckets cap files.now words.now table.new row.new result }
+fn move_all(from: View<'_>, table: &mut [u32], row: &mut [u32]) -> Result<(), NoRoom>
+    requires { (Fits from.sizes.buckets from.sizes.cap from.files.now from.words.now) × ((Part from.sizes.buckets from.sizes.cap from.words.now row.old) × ((Fits from.sizes.buckets from.sizes.cap table.old row.old) × (texts from.sizes.buckets table.old row.old ≡ []))) }
+    ensures { ReclaimSays from.entry.sizes.buckets from.entry.sizes.cap from.entry.files.now from.entry.words.now table.new row.new result }
 {
-    let n = files[0] as usize;
-    let mut k = 0;
-    while k < n {
-        if !move_file(table, row, words, buckets, cap, files[1 + k] as usize) {
-            return false;
-        }
-        k += 1;
+    for p in places(from.files) {
+        move_file(from, table, row, *p as usize)?;
     }
-    true
+    Ok(())
 }
 
 // The file whose record stands at a place of the words goes to the row, behind those that are there.
-fn move_file(
-    table: &mut [u32],
-    row: &mut [u32],
-    words: &[u32],
-    buckets: usize,
-    cap: usize,
-    p: usize,
-) -> bool
-    requires { (Sound buckets cap words.now) × ((FileOk buckets cap words.now p) × ((Part buckets cap words.now row.old) × (Fits buckets cap table.old row.old))) }
-    ensures { MoveSays buckets cap words.now table.old row.old table.new row.new p result }
+fn move_file(from: View<'_>, table: &mut [u32], row: &mut [u32], p: usize) -> Result<(), NoRoom>
+    requires { (Sound from.sizes.buckets from.sizes.cap from.words.now) × ((FileOk from.sizes.buckets from.sizes.cap from.words.now p) × ((Part from.sizes.buckets from.sizes.cap from.words.now row.old) × (Fits from.sizes.buckets from.sizes.cap table.old row.old))) }
+    ensures { MoveSays from.entry.sizes.buckets from.entry.sizes.cap from.entry.words.now table.old row.old table.new row.new p result }
 {
-    let f = words[p];
-    let ns = bytes_from(words, p + 1);
-    if !keep_number(row, words, buckets, cap, f) {
-        return false;
-    }
-    if !keep_numbers(row, words, buckets, cap, ns) {
-        return false;
-    }
-    push_file(table, row, buckets, cap, f, ns)
+    let f = from.words[p];
+    let ns = bytes_from(from.words, p + 1);
+    keep_number(from, row, f)?;
+    keep_numbers(from, row, ns)?;
+    push_file(table, row, from.sizes, f, ns)
 }
 
 // Each of these numbers in the row too.
-fn keep_numbers(row: &mut [u32], words: &[u32], buckets: usize, cap: usize, ns: &[u32]) -> bool
-    requires { (Sound buckets cap words.now) × ((Every (Live buckets words.now) ns.now) × (Part buckets cap words.now row.old)) }
-    ensures { KeepAllSays buckets cap words.now row.old row.new ns.now result }
+fn keep_numbers(from: View<'_>, row: &mut [u32], ns: &[u32]) -> Result<(), NoRoom>
+    requires { (Sound from.sizes.buckets from.sizes.cap from.words.now) × ((Every (Live from.sizes.buckets from.words.now) ns.now) × (Part from.sizes.buckets from.sizes.cap from.words.now row.old)) }
+    ensures { KeepAllSays from.entry.sizes.buckets from.entry.sizes.cap from.entry.words.now row.old row.new ns.now result }
 {
-    let mut i = 0;
-    while i < ns.len() {
-        if !keep_number(row, words, buckets, cap, ns[i]) {
-            return false;
-        }
-        i += 1;
+    for n in ns {
+        keep_number(from, row, *n)?;
     }
-    true
+    Ok(())
 }
 
 // One of the words' numbers in the row too, with its bytes.
-fn keep_number(row: &mut [u32], words: &[u32], buckets: usize, cap: usize, n: u32) -> bool
-    requires { (Sound buckets cap words.now) × ((Live buckets words.now n) × (Part buckets cap words.now row.old)) }
-    ensures { KeepSays buckets cap words.now row.old row.new n result }
+fn keep_number(from: View<'_>, row: &mut [u32], n: u32) -> Result<(), NoRoom>
+    requires { (Sound from.sizes.buckets from.sizes.cap from.words.now) × ((Live from.sizes.buckets from.words.now n) × (Part from.sizes.buckets from.sizes.cap from.words.now row.old)) }
+    ensures { KeepSays from.entry.sizes.buckets from.entry.sizes.cap from.entry.words.now row.old row.new n result }
 {
-    if place_of(row, buckets, n as usize) > 0 {
-        return true;
+    let sizes = from.sizes;
+    if sizes.place_of(row, n as usize) > 0 {
+        return Ok(());
     }
-    let p = place_of(words, buckets, n as usize);
-    let key = bytes_from(words, p);
+    let key = sizes.line_of(from.words, n);
     if row.len() - (row[1] as usize) < 1 + key.len() {
-        return false;
+        return Err(NoRoom);
     }
-    add(row, buckets, cap, n, key);
-    true
+    sizes.add(row, n, key);
+    Ok(())
 }

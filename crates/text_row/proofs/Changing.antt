@@ -1,23 +1,26 @@
 -- Changes of the texts: what weight leaves of room (light-replace, light-add), and what comes of the steps (replaced, added).
-use Rattle.std.proofs.Common.{◌≡◌, ℕ, zero, suc, ◌+◌, ◌-◌, ◌*◌, ◌<◌, ◌≤◌, Bool, true, false, List, [], ◌∷◌, ◌++◌, length, get_or, take, drop, sym, refl, ap, ◌∙◌, subst, arith, length-append, length-drop}
+use Rattle.std.proofs.Common.{◌≡◌, ℕ, zero, suc, ◌+◌, ◌-◌, ◌*◌, ◌<◌, ◌≤◌, Bool, true, false, List, [], ◌∷◌, ◌++◌, length, get_or, take, drop, sym, refl, ap, ◌∙◌, subst, arith, length-append, length-drop, Result}
 use mathlib.Core.Option.{none}
 use Rattle.std.specs.List.{between}
 use Rattle.std.proofs.lemmas.List.{get_or_default, length-take-le, take_all, drop_all}
 use Rattle.base.specs.Base.{pick, same}
 use Rattle.semantics.specs.Names.{File, Texts, find_file}
 use Rattle.semantics.specs.Answers.{puts_file, edits, weigh_texts}
-use Rattle.text_row.specs.Row.{table, half, Same}
-use Rattle.text_row.specs.Index.{count, end, bytes, Live}
-use Rattle.text_row.specs.Interner.{Interned, CanIntern, InternSays}
+use Rattle.text_row.specs.Row.{table, half}
+use Rattle.interner.specs.Index.{Same}
+use Rattle.interner.specs.Index.{count, end, bytes, Live}
+use Rattle.text_row.specs.Interner.{CanIntern, InternSays}
+use Rattle.interner.specs.Interner.{Interned}
 use Rattle.text_row.specs.Files.{texts, file_at, placed, FileOk, Fits, Found}
 use Rattle.text_row.specs.Weights.{largest, room, RoomSays}
 use Rattle.text_row.specs.Copies.{WidenSays, CanWrite, WriteSays}
 use Rattle.text_row.specs.Changes.{texts_in, InOrder, Long, OpenSays, EditSays, ChangeSays, CanMake, MakeSays, CanPutText, PutTextSays, RecordSays, CanLay, LaySays, SpliceSays}
-use Rattle.text_row.specs.declared.texts.Changed.{Changed}
-use Rattle.text_row.proofs.Puts.{puts_new}
+use Rattle.interner.specs.declared.refused.NoRoom.{NoRoom}
+use Rattle.interner.specs.declared.refused.Refused.{Refused}
+use Rattle.interner.proofs.Puts.{puts_new}
 use Rattle.text_row.proofs.Tables.{still, file_ok}
 use Rattle.text_row.proofs.Loads.{texts_long, text_at, weigh_append, many_weigh, largest_append}
-use Rattle.text_row.proofs.Parts.{part_at, part_long, part_same}
+use Rattle.interner.proofs.Parts.{part_at, part_long, part_same}
 
 -- texts with a file in the k-th place
 module _ (k : ℕ) (y : File) (p : Texts) where
@@ -147,10 +150,10 @@ module _ (v w : ℕ) (m : List ℕ) (c : Long v w m) where
   pub same_change : (m₁ m₂ : List ℕ) → Same 0 w m m₁ → ChangeSays v w m₁ m₂ → ChangeSays v w m m₂
   same_change m₁ m₂ b s = record { order = s.order; stays = record { below = λ i x y. s.stays.below i x y ∙ b i x (omega (arith, c.from)); above = λ i x y. s.stays.above i x y ∙ b i (omega arith) y } }
 
-  pub open_as : (m₁ : List ℕ) → length m₁ ≡ length m → Same 0 w m m₁ → (f x : List ℕ) (q : Texts) (r : Changed) → OpenSays (texts_in v m₁) (length m₁) f x q r → OpenSays (texts_in v m) (length m) f x q r
+  pub open_as : (m₁ : List ℕ) → length m₁ ≡ length m → Same 0 w m m₁ → (f x : List ℕ) (q : Texts) (r : Result (Unit {0}) NoRoom) → OpenSays (texts_in v m₁) (length m₁) f x q r → OpenSays (texts_in v m) (length m) f x q r
   open_as m₁ l b f x q r s = subst (λ (n : ℕ). OpenSays (texts_in v m) n f x q r) l (subst (λ (p : Texts). OpenSays p (length m₁) f x q r) (same_texts m₁ l b) s)
 
-  pub edit_as : (m₁ : List ℕ) → length m₁ ≡ length m → Same 0 w m m₁ → (f : List ℕ) (i j : ℕ) (x : List ℕ) (q : Texts) (r : Changed) → EditSays (texts_in v m₁) (length m₁) f i j x q r → EditSays (texts_in v m) (length m) f i j x q r
+  pub edit_as : (m₁ : List ℕ) → length m₁ ≡ length m → Same 0 w m m₁ → (f : List ℕ) (i j : ℕ) (x : List ℕ) (q : Texts) (r : Result (Unit {0}) Refused) → EditSays (texts_in v m₁) (length m₁) f i j x q r → EditSays (texts_in v m) (length m) f i j x q r
   edit_as m₁ l b f i j x q r s = subst (λ (n : ℕ). EditSays (texts_in v m) n f i j x q r) l (subst (λ (p : Texts). EditSays p (length m₁) f i j x q r) (same_texts m₁ l b) s)
 
   pub found_as : (m₁ : List ℕ) → length m₁ ≡ length m → Same 0 w m m₁ → (name : List ℕ) (k : ℕ) → Found (texts_in v m) name k → Found (texts_in v m₁) name k

@@ -7,16 +7,17 @@ use Rattle.base.specs.Base.{pick, is_some, same}
 use Rattle.semantics.specs.Names.{Texts, find_file}
 use Rattle.semantics.specs.Answers.{drops_file, weigh_texts}
 use Rattle.text_row.specs.Row.{table, half}
-use Rattle.text_row.specs.Lines.{Every}
-use Rattle.text_row.specs.Index.{bytes, Live}
-use Rattle.text_row.specs.Files.{texts, file_at, entries, FileOk, Fits, Found, DropSays}
+use Rattle.interner.specs.Lines.{Every}
+use Rattle.interner.specs.Index.{bytes, Live}
+use Rattle.text_row.specs.Files.{texts, file_at, FileOk, Fits, Found, DropSays}
+use Rattle.interner.specs.Places.{entries}
 use Rattle.text_row.specs.Weights.{largest, room}
-use Rattle.text_row.specs.Reclaim.{Blank}
+use Rattle.interner.specs.Interner.{Blank}
 use Rattle.text_row.specs.Changes.{texts_in, kept_texts, InOrder, Kept, Work, Long, Stays, ChangeSays, CloseSays, RecordSays}
 use Rattle.text_row.proofs.Drops.{drops_others}
-use Rattle.text_row.proofs.Puts.{finds_none}
+use Rattle.interner.proofs.Puts.{finds_none}
 use Rattle.text_row.proofs.Changing.{f_live, f_name}
-use Rattle.text_row.proofs.Parts.{part_at, part_long, part_same, put_below, put_above, put_in, put_long}
+use Rattle.interner.proofs.Parts.{part_at, part_long, part_same, put_below, put_above, put_in, put_long}
 
 drops_light : (name : List ℕ) (p : Texts) → (weigh_texts (drops_file name p) ≤ weigh_texts p) × (largest (drops_file name p) ≤ largest p)
 drops_light name [] = (omega arith, omega arith)
@@ -30,8 +31,8 @@ pub not_open : (name : List ℕ) (p q : Texts) → q ≡ p → find_file p name 
 not_open name p q e h = (sym (ap is_some h), e ∙ sym (finds_none name p h))
 
 module _ (v w k : ℕ) (name m : List ℕ) (c : Long v w m) (f : Found (texts_in v m) name k) (p : ℕ) (s : RecordSays v k m p) where
-  pub can_drop : Fits v (2 * v) (table v v m) (half v (2 * v) m) × ((v + v ≤ 2 * v) × ((2 * v + 9 * v ≤ length m) × (length m < 4294967296)))
-  can_drop = (c.order.fits, (omega arith, (omega (arith, c.units), c.small)))
+  pub can_drop : Fits v (2 * v) (table v v m) (half v (2 * v) m) × (11 * v ≤ length m)
+  can_drop = (c.order.fits, omega (arith, c.units))
 
   module _ (m₁ : List ℕ) (l : length m₁ ≡ length m) (d : DropSays v v (2 * v) (get_or m (2 * v + p) 0) m m₁) where
     half_same : half v (2 * v) m₁ ≡ half v (2 * v) m
@@ -90,7 +91,7 @@ module _ (m : List ℕ) (small : length m < 4294967296) where
     pub short_empty : length m < 65536 → Kept m₁ × ((kept_texts m₁ ≡ []) × Stays u (length m) m m₁)
     short_empty h = (record { small = omega (arith, long₁, small); in_order = λ g. let z : ⊥ = omega (arith, long₁) in elim z [ ]; bare = λ g. none_kept }, (none_kept, record { below = λ i x y. get_or-set_other m u i 0 0 (omega arith); above = λ i x y. get_or-set_other m u i 0 0 (omega arith) }))
 
-    module _ (z : List ℕ) (lz : length z ≡ length (half u (2 * u) m₁)) (b : Blank u (2 * u) z) (large : 65536 ≤ length m) where
+    module _ (z : List ℕ) (lz : length z ≡ length (half u (2 * u) m₁)) (b : Blank u (2 * u) 1 z) (large : 65536 ≤ length m) where
       abbrev m₂ : List ℕ
       m₂ = put_mid (2 * u) (2 * u + 9 * u - 2 * u) m₁ z
 
@@ -116,7 +117,7 @@ module _ (m : List ℕ) (small : length m < 4294967296) where
       texts_are = ap (map (file_at u (half u (2 * u) m₂))) entries_are
 
       fits : Fits u (2 * u) (table u u m₂) (half u (2 * u) m₂)
-      fits = record { sound = subst (Rattle.text_row.specs.Index.Sound u (2 * u)) (sym half_is) b.sound; in_table = omega (arith, ap (λ x. get_or x 0 0) table_is, none_in, part_long u (u + u) m₂ (omega (arith, long₂))); all_ok = subst (Every (FileOk u (2 * u) (half u (2 * u) m₂))) (sym entries_are) tt }
+      fits = record { sound = subst (Rattle.interner.specs.Index.Sound u (2 * u)) (sym half_is) b.sound; in_table = omega (arith, ap (λ x. get_or x 0 0) table_is, none_in, part_long u (u + u) m₂ (omega (arith, long₂))); all_ok = subst (Every (FileOk u (2 * u) (half u (2 * u) m₂))) (sym entries_are) tt }
 
       pub made_empty : Kept m₂ × ((kept_texts m₂ ≡ []) × Stays u (length m) m m₂)
       made_empty = let r = ap room texts_are in let l = long₂ in (record { small = omega (arith, small); in_order = λ g. subst (λ (n : ℕ). InOrder (n / 40) m₂) (sym long₂) (record { fits = fits; roomy = omega arith }); bare = λ g. let f : ⊥ = omega arith in elim f [ ] }, (sym (texts_sealed m m₂ long₂) ∙ texts_are, record { below = λ i x y. put_below (2 * u) (2 * u + 9 * u - 2 * u) m₁ z z_long z_in i x (omega arith) ∙ get_or-set_other m u i 0 0 (omega arith); above = λ i x y. put_above (2 * u) (2 * u + 9 * u - 2 * u) m₁ z z_long z_in i (omega arith) (omega (arith, long₁)) ∙ get_or-set_other m u i 0 0 (omega arith) }))

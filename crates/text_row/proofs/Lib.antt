@@ -1,19 +1,13 @@
--- A text and its lines: Joined. The index: Chains, Words, Still. Parts of one row: Parts. Lines by number: Numbering.
-pub mod Joined
-pub mod Chains
-pub mod Words
-pub mod Still
-pub mod Parts
+-- Lines by number: Interning, Numbering. Files in the half: Records, Tables, Drops; what they want: Loads. What is laid out: Writes. All moved:
+-- Moves, Moving. Changes: Places, Changing, Closing.
 pub mod Interning
 pub mod Numbering
-pub mod Puts
 pub mod Records
 pub mod Tables
 pub mod Loads
 pub mod Drops
 pub mod Writes
 pub mod Moves
-pub mod Blank
 pub mod Moving
 pub mod Places
 pub mod Changing

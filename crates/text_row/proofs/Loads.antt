@@ -1,16 +1,18 @@
 -- What a file weighs, by the words of its record (file-weight); what texts weigh, one file after the other (Weighing), and with another file
 -- among them (room_is).
-use Rattle.std.proofs.Common.{◌≡◌, ℕ, zero, suc, ◌+◌, ◌-◌, ◌*◌, ◌<◌, ◌≤◌, max, List, [], ◌∷◌, ◌++◌, length, get_or, take, drop, sym, ap, ◌∙◌, arith}
+use Rattle.std.proofs.Common.{◌≡◌, ℕ, zero, suc, ◌+◌, ◌-◌, ◌*◌, ◌<◌, ◌≤◌, max, min, List, [], ◌∷◌, ◌++◌, length, get_or, take, drop, sym, ap, ◌∙◌, arith}
 use Rattle.std.specs.List.{between}
 use Rattle.std.proofs.lemmas.List.{drop_more, get_or-map, length-map}
 use Rattle.std.proofs.lemmas.Slice.{between_to_end}
 use Rattle.semantics.specs.Names.{File, Texts}
 use Rattle.semantics.specs.Answers.{weigh_texts}
-use Rattle.text_row.specs.Index.{place, bytes_at, bytes, Sound, Live}
-use Rattle.text_row.specs.Files.{file_at, entries, texts, FileOk, Fits}
+use Rattle.interner.specs.Index.{place, bytes_at, bytes, Sound, Live}
+use Rattle.text_row.specs.Files.{file_at, texts, FileOk, Fits}
+use Rattle.interner.specs.Places.{entries}
 use Rattle.text_row.specs.Weights.{largest, WeighSays, RoomSays}
-use Rattle.text_row.proofs.Tables.{entry_is, entries_long, file_ok}
-use Rattle.text_row.proofs.Parts.{part_long}
+use Rattle.text_row.proofs.Tables.{file_ok}
+use Rattle.interner.proofs.Places.{entry_is, entries_long}
+use Rattle.interner.proofs.Parts.{part_at, part_long}
 
 pub bytes_long : (m : List ℕ) (p : ℕ) → p + 1 + get_or m p 0 ≤ length m → length (bytes_at m p) ≡ get_or m p 0
 bytes_long m p h = let e : get_or m p 0 ≡ (p + 1 + get_or m p 0) - (p + 1) = omega arith in ap (λ n. length (take n (drop (p + 1) m))) e ∙ part_long (p + 1) (p + 1 + get_or m p 0) m h ∙ sym e
@@ -100,6 +102,21 @@ module _ (nb cap : ℕ) (t m : List ℕ) (q : Fits nb cap t m) (a b total longes
 
   pub weigh_on : Weighing (texts nb t m) a b (total + (16 + (long + size))) (max size longest) (k + 1)
   weigh_on = let e = ap weigh_texts (rest_is nb cap t m q k h b g) in let f = ap largest (rest_is nb cap t m q k h b g) in let x = name_long nb cap t m q k h in let y = text_long nb cap t m q k h in let u = w.total_is in let v = w.largest_is in record { total_is = omega arith; largest_is = omega arith }
+
+-- the files of the table from a up to b, which may stand before a
+module _ (t ps : List ℕ) (h : 1 + get_or t 0 0 ≤ length t) (e : ps ≡ entries t) (a b from : ℕ) (f : from ≡ min a b) (g : b ≤ get_or t 0 0) (i : ℕ) where
+  some_long : length (between from b ps) ≡ b - from
+  some_long = part_long from b ps (omega (arith, ap length e, entries_long t h))
+
+  pub some_end : length (between from b ps) ≤ i → b ≤ min a b + i
+  some_end x = omega (arith, some_long)
+
+  module _ (x : i < length (between from b ps)) where
+    pub some_in : min a b + i < b
+    some_in = omega (arith, some_long)
+
+    pub some_is : get_or (between from b ps) i 0 ≡ get_or t (1 + (min a b + i)) 0
+    some_is = let l = some_in in part_at from b ps i (omega arith) ∙ ap (λ (qs : List ℕ). get_or qs (from + i) 0) e ∙ ap (λ (k : ℕ). get_or (entries t) (k + i) 0) f ∙ entry_is t (min a b + i) (omega arith)
 
 -- with another file
 pub room_is : (p : Texts) (k n name size t₁ l₁ t₂ l₂ : ℕ) → length p ≤ n → WeighSays p 0 k t₁ l₁ → WeighSays p (k + 1) n t₂ l₂ → RoomSays p k name size (65536 + 24 * (t₁ + (16 + (name + size) + t₂)) + 256 * max l₁ (max size l₂))

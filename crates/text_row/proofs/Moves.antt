@@ -2,17 +2,21 @@
 use Rattle.std.proofs.Common.{◌≡◌, ℕ, ◌+◌, ◌-◌, ◌*◌, ◌≤◌, List, length, get_or, sym, refl, ap, ◌∙◌, subst, arith}
 use Rattle.std.specs.List.{between}
 use Rattle.lexer.specs.Tokens.{lines}
-use Rattle.text_row.specs.Row.{half, Same}
-use Rattle.text_row.specs.Index.{count, end, bytes_at, bytes, Sound, Live}
-use Rattle.text_row.specs.Lines.{bodies, joined}
-use Rattle.text_row.specs.Interner.{Interned, CanIntern, InternSays, Numbered, CanNumber, NumberSays}
-use Rattle.text_row.specs.Files.{text_of, file_at, Body, FileOk, CanAppend, AppendSays}
+use Rattle.text_row.specs.Row.{half}
+use Rattle.interner.specs.Index.{Same}
+use Rattle.interner.specs.Index.{count, end, bytes_at, bytes, Sound, Live}
+use Rattle.interner.specs.Lines.{bodies, joined}
+use Rattle.text_row.specs.Interner.{CanIntern, InternSays, CanNumber, NumberSays}
+use Rattle.interner.specs.Numbers.{Numbered}
+use Rattle.interner.specs.Interner.{Interned}
+use Rattle.text_row.specs.Files.{file_at, Body, FileOk, CanAppend, AppendSays}
+use Rattle.interner.specs.Written.{text_of}
 use Rattle.text_row.specs.Copies.{CanCopy, CopySays, CanWrite, WriteSays}
 use Rattle.text_row.specs.Reclaim.{CanMove, MoveSays}
-use Rattle.text_row.proofs.Joined.{joined_lines}
-use Rattle.text_row.proofs.Interning.{pooled_on, grown_on}
+use Rattle.interner.proofs.Joined.{joined_lines}
+use Rattle.interner.proofs.Lists.{pooled_on, grown_on}
 use Rattle.text_row.proofs.Records.{new_file, new_ok}
-use Rattle.text_row.proofs.Parts.{part_long, part_same}
+use Rattle.interner.proofs.Parts.{part_long, part_same}
 
 -- numbers of a text's lines are a body for a file with that text
 pub text_is : (nb cap : ℕ) (m text m' ns : List ℕ) → Numbered nb cap m text m' ns → text_of nb m' ns ≡ text

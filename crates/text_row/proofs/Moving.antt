@@ -3,17 +3,21 @@ use Rattle.std.proofs.Common.{◌≡◌, ℕ, ◌+◌, ◌-◌, ◌*◌, ◌<◌
 use borrow.Rule.Slice.PartMut.{put_mid}
 use Rattle.std.proofs.lemmas.List.{take_more, take_more_set, take_all, map_push, length-set, get_or-set_other}
 use Rattle.semantics.specs.Answers.{weigh_texts}
-use Rattle.text_row.specs.Row.{table, half, Same}
-use Rattle.text_row.specs.Index.{count, end, pool, Sound}
-use Rattle.text_row.specs.Lines.{Every}
-use Rattle.text_row.specs.Files.{file_at, entries, texts, FileOk, Fits}
-use Rattle.text_row.specs.Reclaim.{Blank, CanMove, MoveSays, CanReclaim, Reclaimed}
-use Rattle.text_row.proofs.Numbering.{every_push}
+use Rattle.text_row.specs.Row.{table, half}
+use Rattle.interner.specs.Index.{Same}
+use Rattle.interner.specs.Index.{count, end, pool, Sound}
+use Rattle.interner.specs.Lines.{Every}
+use Rattle.text_row.specs.Files.{file_at, texts, FileOk, Fits}
+use Rattle.interner.specs.Places.{entries}
+use Rattle.interner.specs.Interner.{Blank}
+use Rattle.text_row.specs.Reclaim.{CanMove, MoveSays, CanReclaim, Reclaimed}
+use Rattle.interner.proofs.Lists.{every_push}
 use Rattle.text_row.proofs.Records.{files_still}
-use Rattle.text_row.proofs.Tables.{entries_set, entries_long, file_ok}
+use Rattle.text_row.proofs.Tables.{file_ok}
+use Rattle.interner.proofs.Places.{entries_set, entries_long}
 use Rattle.text_row.proofs.Drops.{part_set}
 use Rattle.text_row.proofs.Loads.{weigh_append, weigh_take, text_at, texts_long}
-use Rattle.text_row.proofs.Parts.{part_at, part_long, part_same, parts_same, put_below, put_above, put_in, put_long}
+use Rattle.interner.proofs.Parts.{part_at, part_long, part_same, parts_same, put_below, put_above, put_in, put_long}
 
 -- the first k files stand in the other half
 pub record Moving (v t a b w : ℕ) (m₀ m : List ℕ) (k : ℕ) : Type 0 where
@@ -52,7 +56,7 @@ module _ (v t a b w : ℕ) (m₀ : List ℕ) (c : CanReclaim v t a b w m₀) whe
   pub many_is : get_or m₀ t 0 ≡ get_or t₀ 0 0
   many_is = let n = many_in in let z : t + 0 ≡ t = omega arith in sym (part_at t (t + v) m₀ 0 (omega arith) ∙ ap (λ i. get_or m₀ i 0) z)
 
-  pub move_begins : Blank v (2 * v) (half v b m₀) → Moving v t a b w m₀ m₀ 0
+  pub move_begins : Blank v (2 * v) 1 (half v b m₀) → Moving v t a b w m₀ m₀ 0
   move_begins e = record { long = refl; below = λ i x y. refl; middle = λ i x y. refl; above = λ i x y. refl; within = omega arith; counts = refl; rest = λ i h. refl; sound = e.sound; all_ok = tt; so_far = refl; end_most = omega (arith, e.ends); count_most = omega (arith, e.counts) }
 
   module _ (m : List ℕ) (k : ℕ) (g : Moving v t a b w m₀ m k) where
@@ -169,8 +173,8 @@ module _ (v t a b w : ℕ) (m₀ : List ℕ) (c : CanReclaim v t a b w m₀) whe
     pub still_can : CanReclaim v t a b w mz
     still_can = let e = ap weigh_texts texts_are in let l = cleared_long in record { small = omega (arith, c.small); table_below = c.table_below; apart = c.apart; above = c.above; fits = subst (λ (x : List ℕ). Fits v (2 * v) x (half v a mz)) (sym t_is) (subst (λ (x : List ℕ). Fits v (2 * v) t₀ x) (sym a_is) c.fits); numbers = omega (arith, c.numbers); room = omega (arith, c.room); work = omega (arith, c.work) }
 
-    pub blank_there : Blank v (2 * v) z → Blank v (2 * v) (half v b mz)
-    blank_there e = subst (Blank v (2 * v)) (sym (put_in b (b + 9 * v - b) m₀ z z_long z_in (b + 9 * v) refl)) e
+    pub blank_there : Blank v (2 * v) 1 z → Blank v (2 * v) 1 (half v b mz)
+    blank_there e = subst (Blank v (2 * v) 1) (sym (put_in b (b + 9 * v - b) m₀ z z_long z_in (b + 9 * v) refl)) e
 
     -- all files moved, and the half copied back
     module _ (m : List ℕ) (lm : length m ≡ length mz) (d : Reclaimed v t a b w b mz m) (m' : List ℕ) (l' : length m' ≡ length m)

@@ -1,113 +1,78 @@
--- The lines of a text, one after the other, get numbers (begins, steps, ends).
-use Rattle.std.proofs.Common.{◌≡◌, ℕ, ◌+◌, ◌-◌, ◌*◌, ◌<◌, ◌≤◌, Bool, List, [], ◌∷◌, ◌++◌, map, length, get_or, take, drop, set, sym, refl, ap, ◌∙◌, subst, append_assoc, append-nil, arith, le-ltb, lt-ltb}
+-- Lines get numbers in a half: the half is lent, and so are the words behind the text (number_says).
+use Rattle.std.proofs.Common.{◌≡◌, ℕ, ◌+◌, ◌-◌, ◌*◌, ◌<◌, ◌≤◌, List, ◌++◌, length, get_or, take, drop, refl, sym, ap, ◌∙◌, subst, append_assoc, arith, length-drop}
+use Rattle.std.proofs.Math.Seq.{take-append_seam, drop-append_seam}
+use borrow.Rule.Slice.PartMut.{put_mid}
 use Rattle.std.specs.List.{between}
-use Rattle.std.proofs.lemmas.List.{map_push, length-set, get_or-set_other}
-use Rattle.base.specs.Base.{pick}
-use Rattle.text_row.specs.Row.{half, Same}
-use Rattle.text_row.specs.Index.{count, end, bytes, Sound, Live, Grown, Pooled}
-use Rattle.text_row.specs.Interner.{Interned, InternSays, Numbered, CanIntern, CanNumber, NumberSays}
-use Rattle.text_row.specs.Lines.{bodies, Every}
-use Rattle.lexer.specs.Tokens.{lines}
-use Rattle.lexer.specs.Lines.{lines_from, lines_behind, LineEnds}
-use Rattle.text_row.proofs.Joined.{map_same}
-use Rattle.text_row.proofs.Interning.{pooled_on, grown_on}
-use Rattle.text_row.proofs.Parts.{part_at, part_same, part_long, parts_same, part_push}
+use Rattle.std.proofs.lemmas.List.{drop-take, get_or-take, get_or_append_left, length-take-le, take-take}
+use Rattle.text_row.specs.Row.{half}
+use Rattle.text_row.specs.Interner.{CanNumber, NumberSays}
+use Rattle.interner.specs.Index.{count, end}
+use Rattle.interner.specs.Numbers.{Numbered, Roomy}
+use Rattle.interner.proofs.Parts.{part_long, part_low, part_high, put_below, put_above, put_in, put_joined, put_long}
 
-pub every_push : (P : ℕ → Type 0) (ns : List ℕ) (n : ℕ) → Every P ns → P n → Every P (ns ++ (n ∷ []))
-every_push P [] n e p = (p, tt)
-every_push P (x ∷ xs) n (q, e) p = (q, every_push P xs n e p)
+module _ (v a t n out : ℕ) (m low rest xs ys : List ℕ) (c : CanNumber v a t n out m) (fl : low ≡ take t m) (fr : rest ≡ drop t m) (fx : xs ≡ take (out - t) rest) (fy : ys ≡ drop (out - t) rest) where
+  t_in : t ≤ length m
+  t_in = omega (arith, c.behind, c.out_in)
 
-pub every_still : (P Q : ℕ → Type 0) (ns : List ℕ) → ((n : ℕ) → P n → Q n) → Every P ns → Every Q ns
-every_still P Q [] f e = tt
-every_still P Q (x ∷ xs) f (p, e) = (f x p, every_still P Q xs f e)
+  half_is : between a (a + 9 * v) low ≡ half v a m
+  half_is = part_low a (a + 9 * v) t m low fl c.above t_in
 
--- m₀ at the start; m and ns now: lines before `from` have their numbers
-pub record Going (nb cap : ℕ) (m₀ text m ns : List ℕ) (from k : ℕ) : Type 0 where
-  pub sound : Sound nb cap m
-  pub grown : Grown nb m₀ m
-  pub pooled : Pooled nb cap m₀ m
-  pub long : length m ≡ length m₀
-  pub in_text : from ≤ length text
-  pub few : k ≤ from
-  pub end_most : end m ≤ end m₀ + from
-  pub count_most : count m ≤ count m₀ + from
-  pub live : Every (Live nb m) ns
-  pub so_far : map (bytes nb m) ns ++ bodies (lines_from text from) ≡ bodies (lines text)
+  text_is : take n xs ≡ between t (t + n) m
+  text_is = ap (take n) fx ∙ take-take n (out - t) rest (omega (arith, c.behind)) ∙ part_high t n m rest fr
 
-module _ (nb cap : ℕ) (m₀ text m ns m' : List ℕ) (from to k n : ℕ) (g : Going nb cap m₀ text m ns from k) (e : LineEnds text from to) (i : Interned nb cap m (between from to text) m' n) where
-  live' : Every (Live nb m') (ns ++ (n ∷ []))
-  live' = every_push (Live nb m') ns n (every_still (Live nb m) (Live nb m') ns (λ j l. (i.grown j l).0) g.live) i.live
+  text_long : length (take n xs) ≡ n
+  text_long = ap length text_is ∙ omega (arith, part_long t (t + n) m (omega (arith, c.behind, c.out_in)))
 
-  lines' : (rest : List (List ℕ)) → bodies (lines_behind text to) ≡ rest → map (bytes nb m') (ns ++ (n ∷ [])) ++ rest ≡ bodies (lines text)
-  lines' rest r = ap (λ ls. ls ++ rest) (map_push (bytes nb m') ns n) ∙ append_assoc (map (bytes nb m') ns) (bytes nb m' n ∷ []) rest ∙ ap (λ l. map (bytes nb m') ns ++ (l ∷ rest)) i.bytes_n ∙ ap (λ ls. ls ++ (between from to text ∷ rest)) (map_same (bytes nb m') (bytes nb m) (Live nb m) ns (λ j l. (i.grown j l).1) g.live) ∙ ap (λ ls. map (bytes nb m) ns ++ ls) (sym (ap bodies e.cuts ∙ ap (λ ls. between from to text ∷ ls) r)) ∙ g.so_far
+  ys_long : length ys ≡ length m - out
+  ys_long = omega (arith, ap length fy, length-drop (out - t) rest, ap length fr, length-drop t m, c.behind)
 
-  most : to ≤ length text → (end m' ≤ end m₀ + to + 1) × (count m' ≤ count m₀ + to + 1)
-  most h = let l = part_long from to text h in let x = i.end_most in let y = i.count_most in let u = g.end_most in let v = g.count_most in let w = e.onward in (omega arith, omega arith)
+  pub sound_in : Rattle.interner.specs.Index.Sound v (2 * v) (between a (a + 9 * v) low)
+  sound_in = subst (Rattle.interner.specs.Index.Sound v (2 * v)) (sym half_is) c.sound
 
-  line_steps : to < length text → Going nb cap m₀ text m' (ns ++ (n ∷ [])) (to + 1) (k + 1)
-  line_steps h = let z = most (omega arith) in let w = e.onward in record { sound = i.sound; grown = grown_on nb m₀ m m' g.grown i.grown; pooled = pooled_on nb cap m₀ m m' g.pooled i.pooled; long = i.long ∙ g.long; in_text = omega arith; few = omega (arith, g.few); end_most = omega (arith, z.0); count_most = omega (arith, z.1); live = live'; so_far = lines' (bodies (lines_from text (to + 1))) (ap (λ (b : Bool). bodies (pick b (lines_from text (to + 1)) [])) (lt-ltb to (length text) h)) }
+  pub roomy : (ys' : List ℕ) → length ys' ≡ length ys → Roomy v (2 * v) (between a (a + 9 * v) low) (take n xs) ys'
+  roomy ys' l = let h = part_long a (a + 9 * v) m (omega (arith, c.above, t_in)) in record { numbers = omega (arith, ap count half_is, text_long, c.numbers); words = omega (arith, ap end half_is, ap length half_is, h, text_long, c.room); places = omega (arith, l, ys_long, text_long, c.out_in) }
 
-  line_ends : to ≡ length text → Numbered nb cap m₀ text m' (ns ++ (n ∷ []))
-  line_ends h = let z = most (omega arith) in record { sound = i.sound; grown = grown_on nb m₀ m m' g.grown i.grown; pooled = pooled_on nb cap m₀ m m' g.pooled i.pooled; live = live'; lines_are = sym (append-nil (map (bytes nb m') (ns ++ (n ∷ [])))) ∙ lines' [] (ap (λ (b : Bool). bodies (pick b (lines_from text (to + 1)) [])) (le-ltb to (length text) (omega arith))); end_most = omega (arith, z.0); count_most = omega (arith, z.1); long = i.long ∙ g.long }
+  module _ (w ys' : List ℕ) (k : ℕ) (l : length ys' ≡ length ys) (r : (k ≤ length ys') × Numbered v (2 * v) (between a (a + 9 * v) low) (take n xs) w (take k ys') × (k ≤ length (take n xs) + 1)) where
+    abbrev front : List ℕ
+    front = take out m
 
--- the same in the row
-pub record Counting (v a text n out : ℕ) (m₀ m : List ℕ) (from k : ℕ) : Type 0 where
-  pub going : Going v (2 * v) (half v a m₀) (between text (text + n) m₀) (half v a m) (between out (out + k) m) from k
-  pub below : Same 0 a m₀ m
-  pub above : Same (a + 9 * v) out m₀ m
-  pub long : length m ≡ length m₀
-  pub from_in : from ≤ n
-  pub few : k ≤ from
+    abbrev q : List ℕ
+    q = put_mid a (a + 9 * v - a) front w
 
-pub begins : (v a text n out : ℕ) (m : List ℕ) → CanNumber v a text n out m → Counting v a text n out m m 0 0
-begins v a text n out m c = let z : (out + 0) - out ≡ 0 = omega arith in let e : between out (out + 0) m ≡ [] = ap (λ x. take x (drop out m)) z in record { going = subst (λ (ns : List ℕ). Going v (2 * v) (half v a m) (between text (text + n) m) (half v a m) ns 0 0) (sym e) (record { sound = c.sound; grown = λ k l. (l, refl); pooled = record { longer = omega arith; same_words = λ i h k. refl }; long = refl; in_text = omega arith; few = omega arith; end_most = omega arith; count_most = omega arith; live = tt; so_far = refl }); below = λ i h k. refl; above = λ i h k. refl; long = refl; from_in = omega arith; few = omega arith }
+    front_long : length front ≡ out
+    front_long = length-take-le out m (omega (arith, c.out_in))
 
-module _ (v a text n out : ℕ) (m₀ m : List ℕ) (from to k : ℕ) (c : CanNumber v a text n out m₀) (g : Counting v a text n out m₀ m from k) (e : LineEnds (between text (text + n) m) from to) where
-  text_is : between text (text + n) m ≡ between text (text + n) m₀
-  text_is = let h = c.above in let b = c.behind in part_same text (text + n) m₀ m g.long (omega (arith, c.out_in)) (λ i p q. g.above i (omega arith) (omega arith))
+    w_long : length w ≡ a + 9 * v - a
+    w_long = omega (arith, r.1.long, ap length half_is, part_long a (a + 9 * v) m (omega (arith, c.above, t_in)))
 
-  ends_there : LineEnds (between text (text + n) m₀) from to
-  ends_there = subst (λ (x : List ℕ). LineEnds x from to) text_is e
+    inside : a + (a + 9 * v - a) ≤ length front
+    inside = omega (arith, front_long, c.above, c.behind)
 
-  text_long : length (between text (text + n) m₀) ≡ n
-  text_long = omega (arith, part_long text (text + n) m₀ (omega (arith, c.behind, c.out_in)))
+    q_long : length q ≡ out
+    q_long = put_long a (a + 9 * v - a) front w w_long inside ∙ front_long
 
-  pub to_in : to ≤ n
-  to_in = omega (arith, ends_there.within g.going.in_text, text_long)
+    whole : put_mid a (a + 9 * v - a) low w ++ (xs ++ ys') ≡ q ++ ys'
+    whole =
+        let d : t + (out - t) ≡ out = omega (arith, c.behind) in
+        let lows : low ≡ take t front = fl ∙ sym (take-take t out m (omega (arith, c.behind))) in
+        let mids : xs ≡ drop t front = fx ∙ ap (take (out - t)) fr ∙ sym (drop-take t (out - t) m) ∙ ap (λ i. drop t (take i m)) d in
+        sym (append_assoc (put_mid a (a + 9 * v - a) low w) xs ys') ∙ ap (λ z. z ++ ys') (put_joined a (a + 9 * v - a) t front low xs w lows mids (omega (arith, c.above)) (omega (arith, front_long, c.behind)))
 
-  pub can_intern : CanIntern v a (text + from) (to - from) m
-  can_intern = let h = c.above in let b = c.behind in let l = g.long in let o = c.out_in in let t = to_in in let f = g.going.few in let i = g.going.in_text in let w = e.onward in record { small = omega (arith, c.small); above = omega arith; key_in = omega arith; sound = g.going.sound; number = omega (arith, g.going.count_most, c.numbers, text_long); room = omega (arith, g.going.end_most, c.room) }
+    half_now : half v a (q ++ ys') ≡ w
+    half_now = sym (part_low a (a + 9 * v) out (q ++ ys') q (sym (ap (λ i. take i (q ++ ys')) (sym q_long) ∙ take-append_seam q ys')) (omega (arith, c.above, c.behind)) (omega (arith, q_long, Rattle.std.proofs.Common.length-append q ys'))) ∙ put_in a (a + 9 * v - a) front w w_long inside (a + 9 * v) refl
 
-  line_is : between (text + from) (text + from + (to - from)) m ≡ between from to (between text (text + n) m₀)
-  line_is = let t = to_in in let w = e.onward in let l = text_long in let b = c.behind in let o = c.out_in in let q = g.long in parts_same from to (text + from) (text + from + (to - from)) (between text (text + n) m₀) m (omega arith) (omega arith) (omega arith) (λ i h. let x : text + from + i ≡ text + (from + i) = omega arith in let u = c.above in ap (λ y. get_or m y 0) x ∙ g.above (text + (from + i)) (omega arith) (omega arith) ∙ sym (part_at text (text + n) m₀ (from + i) (omega arith)))
+    numbers_now : between out (out + k) (q ++ ys') ≡ take k ys'
+    numbers_now = let e : (out + k) - out ≡ k = omega arith in ap (λ i. take i (drop out (q ++ ys'))) e ∙ ap (take k) (ap (λ i. drop i (q ++ ys')) (sym q_long) ∙ drop-append_seam q ys')
 
-  module _ (m₁ : List ℕ) (r : ℕ) (i : InternSays v a (text + from) (to - from) m m₁ r) (l₁ : length m₁ ≡ length m) where
-    abbrev m₂ : List ℕ
-    m₂ = set m₁ (out + k) r
+    at_front : (i : ℕ) → i < out → get_or (q ++ ys') i 0 ≡ get_or q i 0
+    at_front i h = get_or_append_left q ys' 0 i (omega (arith, q_long))
 
-    k_in : out + k < length m₁
-    k_in = let t = to_in in let f = g.going.few in let w = e.onward in omega (arith, c.out_in, g.long)
-
-    set_low : (j : ℕ) → j < out + k → get_or m₂ j 0 ≡ get_or m₁ j 0
-    set_low j h = get_or-set_other m₁ (out + k) j r 0 (omega arith)
-
-    half_is : half v a m₂ ≡ half v a m₁
-    half_is = let h = c.above in let b = c.behind in let q = k_in in part_same a (a + 9 * v) m₁ m₂ (length-set m₁ (out + k) r) (omega arith) (λ j x y. set_low j (omega arith))
-
-    interned_line : Interned v (2 * v) (half v a m) (between from to (between text (text + n) m₀)) (half v a m₂) r
-    interned_line = subst (λ (w : List ℕ). Interned v (2 * v) (half v a m) (between from to (between text (text + n) m₀)) w r) (sym half_is) (subst (λ (w : List ℕ). Interned v (2 * v) (half v a m) w (half v a m₁) r) line_is i.interned)
-
-    numbers_are : between out (out + (k + 1)) m₂ ≡ between out (out + k) m ++ (r ∷ [])
-    numbers_are = let h = c.above in let b = c.behind in let q = k_in in let x : out + (k + 1) ≡ (out + k) + 1 = omega arith in ap (λ j. between out j m₂) x ∙ part_push out (out + k) m₁ r (omega arith) q ∙ ap (λ w. w ++ (r ∷ [])) (part_same out (out + k) m m₁ l₁ (omega arith) (λ j y z. i.above j (omega arith) (omega arith)))
-
-    low_same : Same 0 a m₀ m₂
-    low_same j p q = let h = c.above in let b = c.behind in set_low j (omega arith) ∙ i.below j p q ∙ g.below j p q
-
-    high_same : Same (a + 9 * v) out m₀ m₂
-    high_same j p q = set_low j (omega arith) ∙ i.above j p (omega (arith, c.out_in, g.long)) ∙ g.above j p q
-
-    pub steps : (to ≡ n → ⊥) → Counting v a text n out m₀ m₂ (to + 1) (k + 1)
-    steps h = let t = to_in in record { going = subst (λ (ns : List ℕ). Going v (2 * v) (half v a m₀) (between text (text + n) m₀) (half v a m₂) ns (to + 1) (k + 1)) (sym numbers_are) (line_steps v (2 * v) (half v a m₀) (between text (text + n) m₀) (half v a m) (between out (out + k) m) (half v a m₂) from to k r g.going ends_there interned_line (omega (arith, text_long))); below = low_same; above = high_same; long = length-set m₁ (out + k) r ∙ l₁ ∙ g.long; from_in = omega arith; few = omega (arith, g.few, e.onward) }
-
-    pub ends : to ≡ n → NumberSays v a text n out m₀ m₂ (k + 1)
-    ends h = record { numbered = subst (λ (ns : List ℕ). Numbered v (2 * v) (half v a m₀) (between text (text + n) m₀) (half v a m₂) ns) (sym numbers_are) (line_ends v (2 * v) (half v a m₀) (between text (text + n) m₀) (half v a m) (between out (out + k) m) (half v a m₂) from to k r g.going ends_there interned_line (omega (arith, text_long))); few = omega (arith, g.going.few, e.onward); below = low_same; above = high_same }
+    pub number_says : NumberSays v a t n out m (put_mid a (a + 9 * v - a) low w ++ (xs ++ ys')) k
+    number_says =
+        let b = c.above in let d = c.behind in
+        subst (λ (z : List ℕ). NumberSays v a t n out m z k) (sym whole) (record {
+          numbered = subst (λ (z : List ℕ). Numbered v (2 * v) (half v a m) (between t (t + n) m) z (between out (out + k) (q ++ ys'))) (sym half_now) (subst (λ (z : List ℕ). Numbered v (2 * v) (half v a m) (between t (t + n) m) w z) (sym numbers_now) (subst (λ (z : List ℕ). Numbered v (2 * v) z (between t (t + n) m) w (take k ys')) half_is (subst (λ (z : List ℕ). Numbered v (2 * v) (between a (a + 9 * v) low) z w (take k ys')) text_is r.1)));
+          few = omega (arith, r.2, text_long);
+          below = λ i x y. at_front i (omega arith) ∙ put_below a (a + 9 * v - a) front w w_long inside i x y ∙ get_or-take out m i 0 (omega arith);
+          above = λ i x y. at_front i y ∙ put_above a (a + 9 * v - a) front w w_long inside i (omega arith) (omega (arith, front_long)) ∙ get_or-take out m i 0 y;
+        })

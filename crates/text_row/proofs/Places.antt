@@ -7,17 +7,19 @@ use Rattle.std.proofs.lemmas.Slice.{between_to_end}
 use Rattle.base.specs.Base.{pick}
 use Rattle.semantics.specs.Names.{Texts, find_file}
 use Rattle.semantics.specs.Answers.{edits, weigh_texts}
-use Rattle.text_row.specs.Row.{table, half, Same}
-use Rattle.text_row.specs.Index.{bytes, Live}
+use Rattle.text_row.specs.Row.{table, half}
+use Rattle.interner.specs.Index.{Same}
+use Rattle.interner.specs.Index.{bytes, Live}
 use Rattle.text_row.specs.Interner.{NumberSays}
-use Rattle.text_row.specs.Files.{texts, text_of, file_is, placed, Body, Fits, FileOfSays, CanPut, PutSays}
+use Rattle.text_row.specs.Files.{texts, file_is, placed, Body, Fits, FileOfSays, CanPut, PutSays}
+use Rattle.interner.specs.Written.{text_of}
 use Rattle.text_row.specs.Copies.{WidenSays}
 use Rattle.text_row.specs.Changes.{texts_in, InOrder, Long, NamedSays, CanPutText, PutTextSays, SpliceSays}
-use Rattle.text_row.proofs.Puts.{differs}
+use Rattle.interner.proofs.Puts.{differs}
 use Rattle.text_row.proofs.Tables.{still}
 use Rattle.text_row.proofs.Loads.{texts_long}
 use Rattle.text_row.proofs.Moves.{text_is, body_is}
-use Rattle.text_row.proofs.Parts.{part_at, part_long, part_same, parts_same, part_split}
+use Rattle.interner.proofs.Parts.{part_at, part_long, part_same, parts_same, part_split}
 
 -- what stands behind is moved, and the new part laid between
 module _ (at n a b : ℕ) (new m m₁ m₂ : List ℕ) (h : a ≤ b) (g : b ≤ n) (i₁ : at + n ≤ length m) (i₂ : at + a + length new + (n - b) ≤ length m) (l₁ : length m₁ ≡ length m) (l₂ : length m₂ ≡ length m₁)

@@ -3,32 +3,20 @@ use Rattle.std.proofs.Common.{◌≡◌, ℕ, zero, suc, ◌+◌, ◌-◌, ◌*�
 use mathlib.Core.Option.{some, none}
 use borrow.Rule.Slice.PartMut.{put_mid}
 use Rattle.std.specs.List.{between}
-use Rattle.std.proofs.lemmas.List.{get_or-set_same, get_or-set_other, length-set, get_or-take, get_or-drop, length-take-le, drop-set-lt, drop-set-add, map-append, take-map, drop-map, take_more_set, set_split, take_all, drop_all, length-map}
+use Rattle.std.proofs.lemmas.List.{get_or-set_same, get_or-set_other, length-set, drop-set-lt, drop-set-add, map-append, take-map, drop-map, take_more_set, set_split, take_all, drop_all, length-map}
 use Rattle.base.specs.Base.{pick}
 use Rattle.semantics.specs.Answers.{puts_file}
 use Rattle.semantics.specs.Names.{File, find_file}
 use Rattle.text_row.specs.Row.{half, table}
-use Rattle.text_row.specs.Files.{file_at, file_is, entries, texts, placed, FileOk, Fits, Appended, AppendSays, EnlistSays, CanPut, PutSays, name_at}
-use Rattle.text_row.specs.Index.{bytes, Sound, Live, Grown, Pooled}
-use Rattle.text_row.specs.Lines.{Every}
-use Rattle.text_row.proofs.Puts.{First, puts_set, differs}
-use Rattle.text_row.proofs.Records.{files_still, new_file, new_ok, every_at}
-use Rattle.text_row.proofs.Parts.{part_long, part_same, put_below, put_above, put_in, same_on}
-
-pub take_set_in : (n : ℕ) (l : List ℕ) (k p : ℕ) → take n (set l k p) ≡ set (take n l) k p
-take_set_in zero l k p = refl
-take_set_in (suc n) [] k p = refl
-take_set_in (suc n) (x ∷ xs) zero p = refl
-take_set_in (suc n) (x ∷ xs) (suc k) p = ap (λ r. x ∷ r) (take_set_in n xs k p)
-
-pub entries_set : (t : List ℕ) (k p : ℕ) → entries (set t (1 + k) p) ≡ set (entries t) k p
-entries_set t k p = ap (λ n. take n (drop 1 (set t (1 + k) p))) (get_or-set_other t (1 + k) 0 p 0 (omega arith)) ∙ ap (take (get_or t 0 0)) (drop-set-add 1 t k p) ∙ take_set_in (get_or t 0 0) (drop 1 t) k p
-
-pub entry_is : (t : List ℕ) (k : ℕ) → k < get_or t 0 0 → get_or (entries t) k 0 ≡ get_or t (1 + k) 0
-entry_is t k h = get_or-take (get_or t 0 0) (drop 1 t) k 0 h ∙ get_or-drop 1 t k 0
-
-pub entries_long : (t : List ℕ) → 1 + get_or t 0 0 ≤ length t → length (entries t) ≡ get_or t 0 0
-entries_long t h = length-take-le (get_or t 0 0) (drop 1 t) (omega (arith, length-drop 1 t))
+use Rattle.text_row.specs.Files.{file_at, file_is, texts, placed, FileOk, Fits, Appended, AppendSays, EnlistSays, CanPut, PutSays}
+use Rattle.interner.specs.Places.{entries, name_at, Placed}
+use Rattle.interner.specs.Index.{bytes, Sound, Live, Grown, Pooled}
+use Rattle.interner.specs.Lines.{Every}
+use Rattle.interner.proofs.Puts.{First, puts_set, differs}
+use Rattle.text_row.proofs.Records.{files_still, new_file, new_ok}
+use Rattle.interner.proofs.Lists.{every_at, every_append, every_take, every_drop}
+use Rattle.interner.proofs.Places.{entries_set, entry_is, entries_long, placed as placed_in}
+use Rattle.interner.proofs.Parts.{part_long, part_same, put_below, put_above, put_in, put_long}
 
 -- in the place of a file, and behind the last
 module _ (t : List ℕ) (k p : ℕ) (b : 1 + get_or t 0 0 ≤ length t) (room : k + 2 ≤ length t) where
@@ -46,20 +34,6 @@ module _ (t : List ℕ) (k p : ℕ) (b : 1 + get_or t 0 0 ≤ length t) (room : 
       let y : take k (drop 1 t) ≡ take k (entries t) = ap (λ n. take n (drop 1 t)) e ∙ sym (take_all k (entries t) (omega arith)) in
       let z : drop (k + 1) (entries t) ≡ [] = drop_all (k + 1) (entries t) (omega arith) in
       record { entries_are = x ∙ ap (λ w. w ++ (p ∷ [])) y ∙ ap (λ w. take k (entries t) ++ (p ∷ w)) (sym z); in_table = omega (arith, g, length-set t (1 + k) p, length-set (set t (1 + k) p) 0 (k + 1)) }
-
-pub every_append : (P : ℕ → Type 0) (xs ys : List ℕ) → Every P xs → Every P ys → Every P (xs ++ ys)
-every_append P [] ys e f = f
-every_append P (x ∷ xs) ys (p, e) f = (p, every_append P xs ys e f)
-
-pub every_take : (P : ℕ → Type 0) (n : ℕ) (xs : List ℕ) → Every P xs → Every P (take n xs)
-every_take P zero xs e = tt
-every_take P (suc n) [] e = tt
-every_take P (suc n) (x ∷ xs) (p, e) = (p, every_take P n xs e)
-
-pub every_drop : (P : ℕ → Type 0) (n : ℕ) (xs : List ℕ) → Every P xs → Every P (drop n xs)
-every_drop P zero xs e = e
-every_drop P (suc n) [] e = tt
-every_drop P (suc n) (x ∷ xs) (p, e) = every_drop P n xs e
 
 map_placed : (f : ℕ → File) (es : List ℕ) (k p : ℕ) → map f (take k es ++ (p ∷ drop (k + 1) es)) ≡ placed k (f p) (map f es)
 map_placed f es k p = map-append f (take k es) (p ∷ drop (k + 1) es) ∙ ap (λ x. x ++ (f p ∷ map f (drop (k + 1) es))) (sym (take-map f k es)) ∙ ap (λ x. take k (map f es) ++ (f p ∷ x)) (sym (drop-map f (k + 1) es))
@@ -100,7 +74,7 @@ module _ (v t a k f size ns n : ℕ) (m : List ℕ) (c : CanPut v t a k f size n
     half_same = let i = a_in in let b = c.table_below in part_same a (a + 9 * v) m₁ m₂ long₂ (omega arith) (λ j x y. put_above t (t + v - t) m₁ t' t_long t_in j (omega arith) (omega arith))
       where
         long₂ : length (put_mid t (t + v - t) m₁ t') ≡ length m₁
-        long₂ = Rattle.text_row.proofs.Parts.put_long t (t + v - t) m₁ t' t_long t_in
+        long₂ = Rattle.interner.proofs.Parts.put_long t (t + v - t) m₁ t' t_long t_in
 
     table_is : table v t m₂ ≡ t'
     table_is = put_in t (t + v - t) m₁ t' t_long t_in (t + v) refl
@@ -124,8 +98,8 @@ module _ (nb cap : ℕ) (t m : List ℕ) (q : Fits nb cap t m) where
   pub file_ok : (k : ℕ) → k < get_or t 0 0 → FileOk nb cap m (get_or t (1 + k) 0)
   file_ok k h = subst (FileOk nb cap m) (entry_is t k h) (every_at (FileOk nb cap m) (entries t) k (omega (arith, entries_long t q.in_table)) q.all_ok)
 
-  pub record_in : (k : ℕ) → k < get_or t 0 0 → get_or t (1 + k) 0 < length m
-  record_in k h = let x = file_ok k h in omega (arith, x.to_end, q.sound.pool_to)
+  pub in_words : Placed t m
+  in_words = placed_in t m (FileOk nb cap m) (λ p x. omega (arith, x.to_end, q.sound.pool_to)) q.in_table q.all_ok
 
   -- names are numbers
   module _ (f : ℕ) (name : List ℕ) (lf : Live nb m f) (is_name : bytes nb m f ≡ name) where

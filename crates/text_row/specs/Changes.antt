@@ -9,18 +9,21 @@
 --   work ..         to work in: lost in any change
 --
 -- A row of fewer than 65536 words holds no texts, and takes none.
-use Rattle.std.specs.Prelude.{◌≡◌, ℕ, ◌+◌, ◌-◌, ◌*◌, ◌/◌, ◌<◌, ◌≤◌, Bool, ◌⊎◌, List, [], length, get_or, Option as Perhaps, slice_index, slice_index_or}
+use Rattle.std.specs.Prelude.{◌≡◌, ℕ, ◌+◌, ◌-◌, ◌*◌, ◌/◌, ◌<◌, ◌≤◌, Bool, ◌⊎◌, List, [], length, get_or, Option as Perhaps, Some, None, Ok, Err, Result, slice_index, slice_index_or}
 use Rattle.std.proofs.Math.Option.{some, none}
 use Rattle.std.specs.List.{between}
 use Rattle.base.specs.Base.{is_some}
 use Rattle.semantics.specs.Names.{File, Texts, find_file}
 use Rattle.semantics.specs.Answers.{puts_file, drops_file, edits, weigh_texts}
-use Rattle.text_row.specs.Row.{table, half, Same}
-use Rattle.text_row.specs.Index.{count, end, pool, bytes, Live}
+use Rattle.text_row.specs.Row.{table, half}
+use Rattle.interner.specs.Index.{Same}
+use Rattle.interner.specs.Index.{count, end, pool, bytes, Live}
 use Rattle.text_row.specs.Files.{texts, file_at, placed, FileOk, Fits, FileOfSays}
 use Rattle.text_row.specs.Weights.{room}
-use Rattle.text_row.specs.declared.texts.Changed.{Changed}
-use Rattle.text_row.specs.declared.texts.Changed.TheVariants.{Made, NoFile, NoPlace, NoRoom}
+use Rattle.text_row.specs.declared.row.Row.{Row}
+use Rattle.interner.specs.declared.refused.NoRoom.{NoRoom}
+use Rattle.interner.specs.declared.refused.Refused.{Refused}
+use Rattle.interner.specs.declared.refused.Refused.TheVariants.{NoFile, NoPlace, NoRoom as NoRoom1}
 
 abbrev pub unit : List ℕ → ℕ
 unit m = length m / 40
@@ -52,18 +55,16 @@ pub record Stays (v w : ℕ) (m m' : List ℕ) : Type 0 where
   pub above : Same (20 * v) w m m'
 
 -- a file opened: texts before (p) and after (q), n words in the row
-abbrev pub OpenSays : Texts → ℕ → List ℕ → List ℕ → Texts → Changed → Type 0
-OpenSays p n f x q Made = q ≡ puts_file f x p
-OpenSays p n f x q NoFile = ⊥
-OpenSays p n f x q NoPlace = ⊥
-OpenSays p n f x q NoRoom = (q ≡ p) × (n < room (puts_file f x p))
+abbrev pub OpenSays : Texts → ℕ → List ℕ → List ℕ → Texts → Result (Unit {0}) NoRoom → Type 0
+OpenSays p n f x q (Ok u) = q ≡ puts_file f x p
+OpenSays p n f x q (Err e) = (q ≡ p) × (n < room (puts_file f x p))
 
 -- an edit
-abbrev pub EditSays : Texts → ℕ → List ℕ → ℕ → ℕ → List ℕ → Texts → Changed → Type 0
-EditSays p n f a b x q Made = (y : File) × (find_file p f ≡ some y) × (a ≤ b) × (b ≤ length y.text) × (q ≡ puts_file f (edits a b x y.text) p)
-EditSays p n f a b x q NoFile = (q ≡ p) × (find_file p f ≡ none)
-EditSays p n f a b x q NoPlace = (y : File) × (q ≡ p) × (find_file p f ≡ some y) × ((b < a) ⊎ (length y.text < b))
-EditSays p n f a b x q NoRoom = (y : File) × (q ≡ p) × (find_file p f ≡ some y) × (a ≤ b) × (b ≤ length y.text) × (n < room (puts_file f (edits a b x y.text) p))
+abbrev pub EditSays : Texts → ℕ → List ℕ → ℕ → ℕ → List ℕ → Texts → Result (Unit {0}) Refused → Type 0
+EditSays p n f a b x q (Ok u) = (y : File) × (find_file p f ≡ some y) × (a ≤ b) × (b ≤ length y.text) × (q ≡ puts_file f (edits a b x y.text) p)
+EditSays p n f a b x q (Err NoFile) = (q ≡ p) × (find_file p f ≡ none)
+EditSays p n f a b x q (Err NoPlace) = (y : File) × (q ≡ p) × (find_file p f ≡ some y) × ((b < a) ⊎ (length y.text < b))
+EditSays p n f a b x q (Err NoRoom1) = (y : File) × (q ≡ p) × (find_file p f ≡ some y) × (a ≤ b) × (b ≤ length y.text) × (n < room (puts_file f (edits a b x y.text) p))
 
 -- a file closed: whether it was open
 abbrev pub CloseSays : Texts → List ℕ → Texts → Bool → Type 0
@@ -78,6 +79,11 @@ pub record Long (v w : ℕ) (m : List ℕ) : Type 0 where
   pub from : 30 * v ≤ w
   pub to : w + 5 * v ≤ length m
   pub order : InOrder v m
+
+-- the row as it is divided, if it is long
+abbrev pub RowSays : ℕ → List ℕ → Perhaps Row → Type 0
+RowSays w m (Some r) = (r.unit ≡ unit m) × (r.work ≡ w) × Long r.unit r.work m
+RowSays w m None = length m < 65536
 
 -- a change leaves a long row in order
 pub record ChangeSays (v w : ℕ) (m m' : List ℕ) : Type 0 where

@@ -1,8 +1,9 @@
 -- Bytes and texts laid out in the row above what is kept: what stands there then.
 use Rattle.std.specs.Prelude.{◌≡◌, ℕ, ◌+◌, ◌*◌, ◌≤◌, List, length, slice_index}
 use Rattle.std.specs.List.{between}
-use Rattle.text_row.specs.Row.{half, Same}
-use Rattle.text_row.specs.Index.{bytes, Sound, Live}
+use Rattle.text_row.specs.Row.{half}
+use Rattle.interner.specs.Index.{Same}
+use Rattle.interner.specs.Index.{bytes, Sound, Live}
 use Rattle.text_row.specs.Files.{file_at, FileOk}
 
 -- bytes from a place on

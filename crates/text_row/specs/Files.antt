@@ -7,21 +7,20 @@
 --                                                    3 ..               their numbers
 --
 -- A file that changes gets a new record; the old one, and lines that no file has, are garbage until all is moved to a fresh half.
-use Rattle.std.specs.Prelude.{◌≡◌, ℕ, ◌+◌, ◌*◌, ◌<◌, ◌≤◌, List, [], ◌∷◌, ◌++◌, map, length, take, drop, Some, None, Option as Perhaps, ◌==◌, ◌≢◌, slice_index, slice_index_or}
+use Rattle.std.specs.Prelude.{◌≡◌, ℕ, ◌+◌, ◌*◌, ◌<◌, ◌≤◌, List, ◌∷◌, ◌++◌, map, length, take, drop, Some, None, Option as Perhaps, slice_index, slice_index_or}
 use Rattle.std.proofs.Math.Option.{some, none}
 use Rattle.std.specs.List.{between}
-use Rattle.base.specs.Base.{pick}
 use Rattle.lexer.specs.Tokens.{lines}
 use Rattle.semantics.specs.Names.{File, Texts, find_file}
 use Rattle.semantics.specs.Answers.{puts_file}
-use Rattle.text_row.specs.Lines.{bodies, joined, Every}
-use Rattle.text_row.specs.Row.{table, half, Same}
-use Rattle.text_row.specs.Index.{count, end, pool, bytes_at, bytes, Sound, Live, Grown, Pooled}
+use Rattle.interner.specs.Lines.{bodies, Every}
+use Rattle.interner.specs.Places.{entries, others}
+use Rattle.interner.specs.Written.{text_of}
+use Rattle.text_row.specs.Row.{table, half}
+use Rattle.interner.specs.Index.{Same}
+use Rattle.interner.specs.Index.{count, end, pool, bytes_at, bytes, Sound, Live, Grown, Pooled}
 
--- the text that numbers of lines stand for; a file of that name with those lines, both by number
-abbrev pub text_of : ℕ → List ℕ → List ℕ → List ℕ
-text_of nb m ns = joined (map (bytes nb m) ns)
-
+-- a file of that name with those lines, both by number
 abbrev pub file_is : ℕ → List ℕ → ℕ → List ℕ → File
 file_is nb m f ns = record { name = bytes nb m f; text = text_of nb m ns }
 
@@ -29,10 +28,7 @@ file_is nb m f ns = record { name = bytes nb m f; text = text_of nb m ns }
 abbrev pub file_at : ℕ → List ℕ → ℕ → File
 file_at nb m p = file_is nb m (slice_index m p) (bytes_at m (p + 2))
 
--- the places in the table, and the texts that it stands for
-abbrev pub entries : List ℕ → List ℕ
-entries t = take (slice_index t 0) (drop 1 t)
-
+-- the texts that the table stands for
 abbrev pub texts : ℕ → List ℕ → List ℕ → Texts
 texts nb t m = map (file_at nb m) (entries t)
 
@@ -108,14 +104,6 @@ pub record PutSays (v t a k f ns n : ℕ) (m m' : List ℕ) : Type 0 where
   pub middle : Same (t + v) a m m'
   pub above : Same (a + 9 * v) (length m) m m'
 
--- the file whose name has the number f
-abbrev pub name_at : List ℕ → List ℕ → ℕ → ℕ
-name_at t m k = slice_index m (slice_index t (1 + k))
-
-abbrev pub IndexSays : List ℕ → List ℕ → ℕ → Perhaps ℕ → Type 0
-IndexSays t m f (Some k) = (k < slice_index t 0) × (name_at t m k ≡ f) × ((j : ℕ) → j < k → name_at t m j ≢ f)
-IndexSays t m f None = (j : ℕ) → j < slice_index t 0 → name_at t m j ≢ f
-
 -- the file of a name stands in the k-th place, and another text for that name goes there
 pub record Found (p : Texts) (name : List ℕ) (k : ℕ) : Type 0 where
   pub file : File
@@ -130,12 +118,7 @@ abbrev pub FileOfSays : Texts → List ℕ → Perhaps ℕ → Type 0
 FileOfSays p name (Some k) = Found p name k
 FileOfSays p name None = find_file p name ≡ none
 
--- the places without those of files whose name has the number f
-abbrev pub others : List ℕ → ℕ → List ℕ → List ℕ
-others m f [] = []
-others m f (p ∷ ps) = pick (slice_index m p == f) (others m f ps) (p ∷ others m f ps)
-
--- they alone are left in the table
+-- the files whose name hasn't the number f are left in the table
 pub record DropSays (v t a f : ℕ) (m m' : List ℕ) : Type 0 where
   pub fits : Fits v (2 * v) (table v t m') (half v a m)
   pub left : entries (table v t m') ≡ others (half v a m) f (entries (table v t m))

@@ -1,26 +1,11 @@
 -- What the interner promises: which bytes a number stands for. m is the row before, m' the row after.
-use Rattle.std.specs.Prelude.{◌≡◌, ℕ, ◌+◌, ◌*◌, ◌<◌, ◌≤◌, List, map, length, Some, None, Option as Perhaps, ◌≢◌}
+use Rattle.std.specs.Prelude.{ℕ, ◌+◌, ◌*◌, ◌<◌, ◌≤◌, List, length}
 use Rattle.std.specs.List.{between}
-use Rattle.lexer.specs.Tokens.{lines}
-use Rattle.text_row.specs.Lines.{bodies, Every}
-use Rattle.text_row.specs.Row.{half, Same}
-use Rattle.text_row.specs.Index.{count, end, bytes, Sound, Live, Grown, Pooled}
-
--- the number of these bytes; or no number in use has them
-abbrev pub FindSays : ℕ → List ℕ → List ℕ → Perhaps ℕ → Type 0
-FindSays nb m key (Some n) = Live nb m n × (bytes nb m n ≡ key)
-FindSays nb m key None = (n : ℕ) → Live nb m n → bytes nb m n ≢ key
-
--- these bytes have a number, and those in use stand for what they stood for; the pool grew by no more than they take
-pub record Interned (nb cap : ℕ) (m key m' : List ℕ) (n : ℕ) : Type 0 where
-  pub sound : Sound nb cap m'
-  pub grown : Grown nb m m'
-  pub pooled : Pooled nb cap m m'
-  pub live : Live nb m' n
-  pub bytes_n : bytes nb m' n ≡ key
-  pub end_most : end m' ≤ end m + 1 + length key
-  pub count_most : count m' ≤ count m + 1
-  pub long : length m' ≡ length m
+use Rattle.text_row.specs.Row.{half}
+use Rattle.interner.specs.Interner.{Interned}
+use Rattle.interner.specs.Numbers.{Numbered}
+use Rattle.interner.specs.Index.{Same}
+use Rattle.interner.specs.Index.{count, end, Sound}
 
 -- bytes that stand above a half of the row can get a number there
 pub record CanIntern (v a from n : ℕ) (m : List ℕ) : Type 0 where
@@ -36,17 +21,6 @@ pub record InternSays (v a from n : ℕ) (m m' : List ℕ) (r : ℕ) : Type 0 wh
   pub interned : Interned v (2 * v) (half v a m) (between from (from + n) m) (half v a m') r
   pub below : Same 0 a m m'
   pub above : Same (a + 9 * v) (length m) m m'
-
--- numbers that stand for a text's lines; the pool grew by no more than the text
-pub record Numbered (nb cap : ℕ) (m text m' ns : List ℕ) : Type 0 where
-  pub sound : Sound nb cap m'
-  pub grown : Grown nb m m'
-  pub pooled : Pooled nb cap m m'
-  pub live : Every (Live nb m') ns
-  pub lines_are : map (bytes nb m') ns ≡ bodies (lines text)
-  pub end_most : end m' ≤ end m + length text + 1
-  pub count_most : count m' ≤ count m + length text + 1
-  pub long : length m' ≡ length m
 
 -- a text of n words above a half of the row, and behind it room for its numbers
 pub record CanNumber (v a text n out : ℕ) (m : List ℕ) : Type 0 where

@@ -1,6 +1,5 @@
--- A text as its lines: Lines. The words that hold lines by number: Index. Parts of one row of words: Row. Lines by number in it: Interner.
-pub mod Lines
-pub mod Index
+-- Parts of one row of words: Row. Lines by number in it: Interner. Files over them: Files, and what they want: Weights. What is laid out:
+-- Copies. All moved: Reclaim. What a caller sees: Changes.
 pub mod Row
 pub mod Interner
 pub mod Files

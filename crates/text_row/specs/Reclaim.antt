@@ -1,15 +1,10 @@
 -- The same texts in the other half, without what no file has, and back in the first.
 use Rattle.std.specs.Prelude.{◌≡◌, ℕ, ◌+◌, ◌*◌, ◌<◌, ◌≤◌, List, length}
 use Rattle.semantics.specs.Answers.{weigh_texts}
-use Rattle.text_row.specs.Row.{table, half, Same}
-use Rattle.text_row.specs.Index.{count, end, pool, Sound, Grown, Pooled}
+use Rattle.text_row.specs.Row.{table, half}
+use Rattle.interner.specs.Index.{Same}
+use Rattle.interner.specs.Index.{count, end, pool, Sound, Grown, Pooled}
 use Rattle.text_row.specs.Files.{texts, file_at, FileOk, Fits}
-
--- no number is in use, and the pool is empty
-pub record Blank (nb cap : ℕ) (w : List ℕ) : Type 0 where
-  pub sound : Sound nb cap w
-  pub counts : count w ≡ 1
-  pub ends : end w ≡ pool nb cap
 
 -- the file at p of the half at a can be moved to the half at b: there is room for it, also from w on, to work in
 pub record CanMove (v a b p w : ℕ) (m : List ℕ) : Type 0 where

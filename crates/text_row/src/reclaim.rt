@@ -1,60 +1,63 @@
 // All files moved to the other half and back: what no file has is gone then. Lines get numbers anew.
-ghost use Rattle.std.specs.Prelude.{◌+◌, ◌*◌, ◌<◌, ◌≤◌, length};
-ghost use Rattle.text_row.specs.Reclaim.{Blank, CanMove, CanReclaim, MoveSays, Reclaimed};
+ghost use Rattle.std.specs.Prelude.{◌*◌};
+ghost use Rattle.interner.specs.Interner.{Blank};
+ghost use Rattle.text_row.specs.Reclaim.{CanMove, CanReclaim, MoveSays, Reclaimed};
 ghost use Rattle.text_row.specs.Row.{half};
 
-use crate::copies::{copy_line, write_text};
-use crate::files::append;
-use crate::interner::intern;
-use crate::numbers::number_lines;
+use crate::half::{Part, sizes};
+use crate::row::Row;
 
-// The same texts, and of the half no more in use than they need. What stands in the other half and from `work` on is lost.
-pub fn reclaim(mem: &mut [u32], unit: usize, files: usize, at: usize, other: usize, work: usize)
-    requires { CanReclaim unit files at other work mem.old }
-    ensures { Reclaimed unit files at other work at mem.old mem.new }
-{
-    clear(&mut mem[other..other + 9 * unit], unit);
-    move_all(mem, unit, files, at, other, work);
-    mem.copy_within(other..other + 9 * unit, at);
-}
-
-// A half in which no number is used yet.
-pub fn clear(words: &mut [u32], unit: usize)
-    requires { (0 < unit) × ((9 * unit ≤ length words.old) × (length words.old < 4294967296)) }
-    ensures { Blank unit (2 * unit) words.new }
-{
-    words[..unit + 4].fill(0);
-    words[0] = 1;
-    words[1] = (2 + unit + 2 * (2 * unit)) as u32;
-}
-
-// All files, one after the other, from one half to the other, which is empty.
-fn move_all(mem: &mut [u32], unit: usize, files: usize, at: usize, other: usize, work: usize)
-    requires { (CanReclaim unit files at other work mem.old) × (Blank unit (2 * unit) (half unit other mem.old)) }
-    ensures { Reclaimed unit files at other work other mem.old mem.new }
-{
-    let n = mem[files] as usize;
-    let mut k = 0;
-    while k < n {
-        let p = mem[files + (1 + k)] as usize;
-        let r = move_file(mem, unit, at, other, p, work);
-        mem[files + (1 + k)] = r;
-        k += 1;
+impl Row {
+    // The same texts, and of the half no more in use than they need. What stands in the other half and in the words to work in is lost.
+    pub fn reclaim(self, mem: &mut [u32])
+        requires { CanReclaim self.unit self.unit (2 * self.unit) (11 * self.unit) self.work mem.old }
+        ensures { Reclaimed self.unit self.unit (2 * self.unit) (11 * self.unit) self.work (2 * self.unit) mem.old mem.new }
+    {
+        let unit = self.unit;
+        let sizes = sizes(unit);
+        sizes.clear(&mut mem[11 * unit..11 * unit + 9 * unit], 1);
+        self.move_all(mem);
+        mem.copy_within(11 * unit..11 * unit + 9 * unit, 2 * unit);
     }
-}
 
-// The file whose record stands at a place of the one half, in the other half: where its record stands there.
-fn move_file(mem: &mut [u32], unit: usize, at: usize, other: usize, p: usize, work: usize) -> u32
-    requires { CanMove unit at other p work mem.old }
-    ensures { MoveSays unit at other p work mem.old mem.new result }
-{
-    let words = &mem[at..at + 9 * unit];
-    let name = words[p];
-    let size = words[p + 1];
-    let end = copy_line(mem, unit, at, name, work);
-    let f = intern(mem, unit, other, work, end - work);
-    write_text(mem, unit, at, p, work);
-    let out = work + size as usize;
-    let n = number_lines(mem, unit, other, work, size as usize, out);
-    append(mem, unit, other, f, size, out, n)
+    // All files, one after the other, to the other half, which is empty. By index: the table stands in the row that is written.
+    fn move_all(self, mem: &mut [u32])
+        requires { (CanReclaim self.unit self.unit (2 * self.unit) (11 * self.unit) self.work mem.old) × (Blank self.unit (2 * self.unit) 1 (half self.unit (11 * self.unit) mem.old)) }
+        ensures { Reclaimed self.unit self.unit (2 * self.unit) (11 * self.unit) self.work (11 * self.unit) mem.old mem.new }
+    {
+        let unit = self.unit;
+        let n = mem[unit] as usize;
+        for k in 0..n {
+            let p = mem[unit + (1 + k)] as usize;
+            let r = self.move_file(mem, p);
+            mem[unit + (1 + k)] = r;
+        }
+    }
+
+    // The file whose record stands at a place of the half in use, in the other half: where its record stands there.
+    fn move_file(self, mem: &mut [u32], p: usize) -> u32
+        requires { CanMove self.unit (2 * self.unit) (11 * self.unit) p self.work mem.old }
+        ensures { MoveSays self.unit (2 * self.unit) (11 * self.unit) p self.work mem.old mem.new result }
+    {
+        let Row { unit, work } = self;
+        let here = self.here();
+        let there = self.there();
+        let words = &mem[2 * unit..2 * unit + 9 * unit];
+        let name = words[p];
+        let size = words[p + 1];
+        let end = here.copy_line(mem, name, work);
+        let key = Part {
+            at: work,
+            len: end - work,
+        };
+        let f = there.intern(mem, key);
+        here.write_text(mem, p, work);
+        let text = Part {
+            at: work,
+            len: size as usize,
+        };
+        let out = work + text.len;
+        let n = there.number_lines(mem, text, out);
+        there.append(mem, f, size, Part { at: out, len: n })
+    }
 }

@@ -1,43 +1,42 @@
-// Words of a half, read and written: the layout stands in specs/Index.
-ghost use Rattle.std.specs.Prelude.{◌≡◌, ◌+◌, ◌*◌, ◌<◌, ◌≤◌, length, slice_set};
-ghost use Rattle.text_row.specs.Index.{entered, head, link, place};
+// The row: how its words are divided stands in specs/Changes.
+ghost use Rattle.std.specs.Prelude.{◌≡◌, ◌*◌, ◌<◌};
 
-// The number that a bucket was given last.
-pub fn head_of(words: &[u32], b: usize) -> usize
-    requires { 2 + b < length words.now }
-    ensures { result ≡ head words.now b }
-{
-    words[2 + b] as usize
+use crate::half::Half;
+
+// Of how many units of words it is, and where the words to work in begin.
+#[derive(Clone, Copy)]
+pub struct Row {
+    pub unit: usize,
+    pub work: usize,
 }
 
-// Where a number's bytes stand, 0 if it is free.
-pub fn place_of(words: &[u32], buckets: usize, n: usize) -> usize
-    requires { 2 + buckets + 2 * n + 1 < length words.now }
-    ensures { result ≡ place buckets words.now n }
-{
-    words[2 + buckets + 2 * n] as usize
+impl Row {
+    // The half in use.
+    pub fn here(self) -> Half
+        requires { 2 * self.unit < 18446744073709551616 }
+        ensures { result ≡ record { unit = self.unit; at = 2 * self.unit } }
+    {
+        let unit = self.unit;
+        Half { unit, at: 2 * unit }
+    }
+
+    // The other half, to which all files are moved when room is wanted.
+    pub fn there(self) -> Half
+        requires { 11 * self.unit < 18446744073709551616 }
+        ensures { result ≡ record { unit = self.unit; at = 11 * self.unit } }
+    {
+        let unit = self.unit;
+        Half {
+            unit,
+            at: 11 * unit,
+        }
+    }
 }
 
-// The next older number of its bucket.
-pub fn link_of(words: &[u32], buckets: usize, n: usize) -> usize
-    requires { 2 + buckets + 2 * n + 1 < length words.now }
-    ensures { result ≡ link buckets words.now n }
-{
-    words[2 + buckets + 2 * n + 1] as usize
-}
-
-// Writes the length of bytes that were laid behind the pool's end, the row of their number, the next, the head of its chain, where the pool
-// ends now, and how many numbers there are.
-pub fn enter(words: &mut [u32], buckets: usize, bucket: usize, n: u32, from: u32, size: u32)
-    requires { (bucket < buckets) × ((2 + buckets + 2 * n + 1 < from) × ((from + 1 + size ≤ length words.old) × (length words.old < 4294967296))) }
-    ensures { words.new ≡ entered buckets bucket n from (from + 1 + size) (n + 1) (slice_set words.old from size) }
-{
-    let row = 2 + buckets + 2 * n as usize;
-    words[from as usize] = size;
-    let next = words[2 + bucket];
-    words[row] = from;
-    words[row + 1] = next;
-    words[2 + bucket] = n;
-    words[1] = from + 1 + size;
-    words[0] = n + 1;
+// What stands in a text from one place up to another is to be replaced.
+#[derive(Clone, Copy)]
+pub struct Edit<'a> {
+    pub from: usize,
+    pub to: usize,
+    pub new: &'a [u8],
 }

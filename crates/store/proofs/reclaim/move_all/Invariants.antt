@@ -1,10 +1,6 @@
--- Invariant and measure of move_all.
-use Rattle.std.proofs.Common.{◌-◌}
+-- Invariant of move_all.
 use Rattle.store.proofs.Keeps.{Moving}
 use Rattle.store.proofs.reclaim.move_all.Given as goal
 
-abbrev pub invariant-loop-k : goal.invariant-loop-k
-invariant-loop-k l = Moving l.buckets l.cap l.files l.words l.table l.row l.k
-
-abbrev pub decreases-loop-k : goal.decreases-loop-k
-decreases-loop-k l = l.n - l.k
+abbrev pub invariant-loop-p : goal.invariant-loop-p
+invariant-loop-p l = Moving l.from.sizes.buckets l.from.sizes.cap l.from.files.now l.from.words.now l.table l.row l.p-index

@@ -1,0 +1,6 @@
+-- Invariant of write.
+use Rattle.std.proofs.Common.{◌≡◌, ℕ, ◌<◌, get_or}
+use Rattle.text_row.proofs.widen.write.Given as goal
+
+abbrev pub invariant-loop-i : goal.invariant-loop-i
+invariant-loop-i l = (k : ℕ) → k < l.i → get_or l.words k 0 ≡ get_or l.bytes k 0
