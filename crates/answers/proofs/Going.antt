@@ -6,10 +6,10 @@ use Rattle.lexer.specs.Tokens.{lines}
 use Rattle.semantics.specs.Names.{File, Texts}
 use Rattle.semantics.specs.Answers.{names_of, spoken, all_spoken, faults_of}
 use Rattle.findings.specs.Gathered.{gathered}
-use Rattle.answers.specs.declared.Layout.{Layout}
+use Rattle.symbols.specs.declared.layout.Layout.{Layout}
 use Rattle.answers.specs.declared.review.Walked.{Walked}
 use Rattle.answers.specs.Lined.{spread}
-use Rattle.answers.specs.Rows.{texts_in, table_row}
+use Rattle.symbols.specs.Rows.{texts_in, table_row}
 use Rattle.answers.specs.Reviews.{Asked, TabledIn, Ready, Roomy, Reviewing, Walking, Going}
 use Rattle.answers.proofs.Reviewed.{same_file}
 
@@ -28,7 +28,7 @@ module _ (holds : List ℕ → Texts) (l : Layout) (ws vs : List ℕ) (ready : R
   ready_now =
       let T : List ℕ → Type 0 = λ m. TabledIn (holds m) l vs in
       record {
-        order = record { slot = ready.order.slot; table = ready.order.table; within = omega (arith, ready.order.within, long); small = omega (arith, ready.order.small, long) };
+        order = record { slot = ready.order.slot; table = ready.order.table; row = omega (arith, ready.order.row, long); small = omega (arith, ready.order.small, long) };
         tabled = subst T (sym held) (λ us small e. ready.tabled us small (e ∙ same));
       }
 

@@ -1,5 +1,4 @@
 pub mod Lines
-pub mod Slots
 pub mod Inspections
 pub mod Stepped
 pub mod Reviewed

@@ -19,11 +19,11 @@ use Rattle.resolver.proofs.Means.{plain_agrees}
 use Rattle.findings.specs.Said.{faults_read}
 use Rattle.findings.specs.Gathered.{gathered}
 use Rattle.findings.proofs.Events.{said_faults}
-use Rattle.answers.specs.declared.Layout.{Layout}
+use Rattle.symbols.specs.declared.layout.Layout.{Layout}
 use Rattle.answers.specs.declared.inspect.Inspected.{Inspected}
 use Rattle.answers.specs.declared.review.Walked.{Walked}
-use Rattle.answers.specs.Rows.{table_row}
-use Rattle.answers.specs.Says.{IsLine, Inspects, Hindered, InspectSays}
+use Rattle.symbols.specs.Rows.{table_row, IsLine}
+use Rattle.answers.specs.Says.{Inspects, Hindered, InspectSays}
 use Rattle.answers.specs.Reviews.{Asked, LooksIn, Ready, Roomy, Reviewing, Walking}
 use Rattle.answers.proofs.Stepped.{long, before_is, stepped}
 
@@ -84,7 +84,7 @@ module _ (p : Texts) (l : Layout) (k base : ℕ) (ws : List ℕ) (n : ℕ) (look
   pub agrees : (x : File) → Asked p k x → (front : List ℕ) → drop l.texts front ≡ drop l.texts (take base ws) → Agrees (book front).knows (answer x.name (sig p x.name) (there p) (there_file p) (names_of (take n (decls x))))
   agrees x a front e =
       let A : Book → Type 0 = λ b. Agrees b.knows (answer x.name (sig p x.name) (there p) (there_file p) (names_of (take n (decls x)))) in
-      subst A (sym (book_is front)) (plain_agrees p (looked front) l.index k n x.name x (ready.tabled (looked front) (omega (arith, length-take (l.work - 0) (drop 0 front), ready.order.within, ready.order.small)) (looked_row front e)) (x, a.file, a.named) a.file)
+      subst A (sym (book_is front)) (plain_agrees p (looked front) l.index k n x.name x (ready.tabled (looked front) (omega (arith, length-take (l.work - 0) (drop 0 front), ready.order.row, ready.order.small)) (looked_row front e)) (x, a.file, a.named) a.file)
 
   -- a line of a file for which there is room can't be refused
   pub not_hindered : (x : File) → Asked p k x → Roomy l base (length x.text) ws → (ln : Line) → length ln.bytes ≤ length x.text → Hindered book l.texts base ws ln → ⊥

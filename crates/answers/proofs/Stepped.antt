@@ -13,10 +13,10 @@ use Rattle.semantics.specs.Names.{File, Texts, Decl, decls, decls_lines, decls_i
 use Rattle.semantics.specs.Check.{faults_in}
 use Rattle.semantics.specs.Answers.{names_of, declared, spoken, faults_of, fault_words, says_line}
 use Rattle.findings.specs.Gathered.{gathered}
-use Rattle.answers.specs.declared.Layout.{Layout}
+use Rattle.symbols.specs.declared.layout.Layout.{Layout}
 use Rattle.answers.specs.declared.review.Walked.{Walked}
 use Rattle.answers.specs.Lined.{Follows, spread}
-use Rattle.answers.specs.Rows.{table_row}
+use Rattle.symbols.specs.Rows.{table_row}
 use Rattle.answers.specs.Reviews.{Reviewing}
 use Rattle.answers.proofs.Lines.{nth_drop, lines_follow, lines_spread}
 

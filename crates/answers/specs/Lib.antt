@@ -1,5 +1,4 @@
--- Lines one behind the other (Lined), the row in which questions are answered (Rows), and what the functions promise (Says).
+-- Lines one behind the other (Lined), what the functions promise (Says), and a file's lines gone over for its faults (Reviews).
 pub mod Lined
-pub mod Rows
 pub mod Says
 pub mod Reviews

@@ -8,10 +8,10 @@ use Rattle.semantics.specs.Answers.{names_of, spoken, all_spoken, faults_of}
 use Rattle.symbols.specs.Tabled.{Tabled}
 use Rattle.resolver.specs.declared.plain.Plain.{Plain}
 use Rattle.findings.specs.Gathered.{gathered}
-use Rattle.answers.specs.declared.Layout.{Layout}
+use Rattle.symbols.specs.declared.layout.Layout.{Layout}
 use Rattle.answers.specs.declared.review.Walked.{Walked}
 use Rattle.answers.specs.Lined.{Follows, spread}
-use Rattle.answers.specs.Rows.{InOrder, table_row}
+use Rattle.symbols.specs.Rows.{InOrder, table_row}
 
 -- the file that is asked of: the k-th, and the one that its name means
 pub record Asked (p : Texts) (k : ℕ) (x : File) : Type 0 where

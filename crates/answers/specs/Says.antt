@@ -6,17 +6,8 @@ use Rattle.semantics.specs.Names.{File, Texts}
 use Rattle.checker.specs.Rows.{Book}
 use Rattle.checker.specs.declared.lookup.Want.{Want}
 use Rattle.diagnostics.specs.Diagnose.{Diagnosed, Tight, Lacking}
+use Rattle.symbols.specs.Rows.{IsLine}
 use Rattle.answers.specs.declared.inspect.Inspected.{Inspected}
-
--- the i-th line of the k-th file
-pub record IsLine (p : Texts) (k i : ℕ) (x : File) (l : Line) : Type 0 where
-  pub file : slice_get p k ≡ Some x
-  pub line : slice_get (lines x.text) i ≡ Some l
-
--- it stands in the first n words; or there is none, or it is longer than the slot
-abbrev pub FetchSays : Texts → ℕ → ℕ → ℕ → List ℕ → Perhaps ℕ → Type 0
-FetchSays p k i slot vs (Some n) = (x : File) × (l : Line) × IsLine p k i x l × (n ≡ length l.bytes) × (n ≤ slot) × (take n vs ≡ l.bytes)
-FetchSays p k i slot vs None = ((x : File) → slice_get p k ≡ Some x → length (lines x.text) ≤ i) ⊎ ((x : File) × (l : Line) × IsLine p k i x l × (slot < length l.bytes))
 
 -- a line of l was looked at, wherever a row whose words from the slot's end on are those of ws was lent
 pub record Inspects (g : List ℕ → Book) (slot base : ℕ) (ws : List ℕ) (l : Line) (r : Inspected) (vs : List ℕ) : Type 0 where

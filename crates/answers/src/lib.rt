@@ -1,16 +1,8 @@
 // Answers worked out from the texts alone, in one row of words: a slot for the line that is looked at, the texts, the symbol table, room
-// to work in.
+// to work in. A file goes with the layout of its row; source and words stay parameters of their own, for each clause names both, and through
+// a struct each name would be a path. Lines are asked of the source by number.
 #![tactic(auto)]
 
 pub mod faults;
-pub mod fetch;
 pub mod inspect;
 pub mod review;
-
-// Where the texts begin, the symbol table, and the room to work in.
-#[derive(Clone, Copy)]
-pub struct Layout {
-    pub texts: usize,
-    pub index: usize,
-    pub work: usize,
-}

@@ -4,17 +4,14 @@ ghost use Rattle.lexer.specs.Tokens.{lines};
 ghost use Rattle.semantics.specs.Names.{File};
 ghost use Rattle.semantics.specs.Answers.{faults_of, all_spoken};
 ghost use Rattle.findings.specs.Gathered.{gathered};
-ghost use Rattle.answers.specs.Rows.{texts_in, table_row};
-ghost use Rattle.answers.specs.Reviews.{Asked, LooksIn, Ready, Reviewing, Roomy, Walking};
+ghost use Rattle.symbols.specs.Rows.{texts_in, table_row};
 
-use crate::Layout;
-use crate::inspect::inspect;
+use crate::inspect::FileAt;
 use declarations::declare::declared;
 use findings::faults::gather;
 use resolver::plain::Plain;
 use source::Source;
 use syntax::view::item_of;
-use typed_lookup::packed::Packed;
 
 // How far the lines were gone over: where the next begins in the file, how many names were declared, and how many faults were gathered.
 #[derive(Clone, Copy)]
@@ -24,71 +21,66 @@ pub struct Walked {
     pub faults: usize,
 }
 
-// What names are looked up in for a line of a file before which it has so many declarations.
-pub fn lookup(l: Layout, file: usize, before: usize) -> Plain
-    ensures { LooksIn l file before result }
-{
-    Plain {
-        from: 0,
-        to: l.work,
-        index: l.index,
-        file,
-        before,
-    }
-}
+impl FileAt {
+    ghost use Rattle.answers.specs.Reviews.{Asked, LooksIn, Ready, Reviewing, Roomy, Walking};
 
-// One line more: the i-th of a file's lines.
-fn review_line<S: Source>(
-    source: &S,
-    words: &mut [u32],
-    l: Layout,
-    file: usize,
-    base: usize,
-    i: usize,
-    at: Walked,
-) -> Walked
-    requires fits { S.Source.fits source.now (texts_in l words.old) }
-    requires ready { Ready (S.Source.holds source.now (texts_in l words.old)) l words.old }
-    requires walked { Walking (S.Source.holds source.now (texts_in l words.old)) l file base words.old i «at» }
-    ensures { (ws : List ℕ) (x : File) → Asked (S.Source.holds source.now (texts_in l words.old)) file x → Reviewing (S.Source.holds source.now (texts_in l words.old)) x l ws words.old i «at» → Reviewing (S.Source.holds source.now (texts_in l words.old)) x l ws words.new (i + 1) result }
-{
-    let look = lookup(l, file, at.before);
-    let Some(seen) = inspect(source, &Packed(&look), words, l, file, i, base) else {
-        return at;
-    };
-    let names = declared(item_of(words, seen.len, base, seen.findings.ops));
-    let faults = gather(words, seen.findings, at.start as u32, l.work, at.faults);
-    Walked {
-        start: at.start + seen.len + 1,
-        before: at.before + names,
-        faults,
+    // What names are looked up in for a line of a file before which it has so many declarations.
+    pub fn lookup(self, before: usize) -> Plain
+        ensures { LooksIn self.l self.file before result }
+    {
+        Plain {
+            from: 0,
+            to: self.l.work,
+            index: self.l.index,
+            file: self.file,
+            before,
+        }
     }
-}
 
-// The faults of a file, gathered from the room to work in on: how many they are. What stands between the slot and that stays as it was.
-pub fn review<S: Source>(
-    source: &S,
-    words: &mut [u32],
-    l: Layout,
-    file: usize,
-    base: usize,
-) -> usize
-    requires fits { S.Source.fits source.now (texts_in l words.old) }
-    requires ready { Ready (S.Source.holds source.now (texts_in l words.old)) l words.old }
-    requires asked { (x : File) × Asked (S.Source.holds source.now (texts_in l words.old)) file x × Roomy l base (length x.text) words.old }
-    ensures kept { table_row l words.new ≡ table_row l words.old }
-    ensures within { l.work + 4 * result ≤ length words.new }
-    ensures finds { (x : File) → Asked (S.Source.holds source.now (texts_in l words.old)) file x → gathered words.new l.work result ≡ faults_of (all_spoken (S.Source.holds source.now (texts_in l words.old)) x) }
-{
-    let Layout { texts, index, .. } = l;
-    let n = source.lines(&words[texts..index], file);
-    let mut at = Walked {
-        start: 0,
-        before: 0,
-        faults: 0,
-    };
-    for i in 0..n {
-        at = review_line(source, words, l, file, base, i, at);
+    // One line more: the i-th of a file's lines.
+    fn review_line<S: Source>(self, source: &S, words: &mut [u32], i: usize, at: Walked) -> Walked
+        requires fits { S.Source.fits source.now (texts_in self.l words.old) }
+        requires ready { Ready (S.Source.holds source.now (texts_in self.l words.old)) self.l words.old }
+        requires walked { Walking (S.Source.holds source.now (texts_in self.l words.old)) self.l self.file self.base words.old i «at» }
+        ensures { (ws : List ℕ) (x : File) → Asked (S.Source.holds source.now (texts_in self.l words.old)) self.file x → Reviewing (S.Source.holds source.now (texts_in self.l words.old)) x self.l ws words.old i «at» → Reviewing (S.Source.holds source.now (texts_in self.l words.old)) x self.l ws words.new (i + 1) result }
+    {
+        let look = self.lookup(at.before);
+        let Some(seen) = self.inspect(source, &look, words, i) else {
+            return at;
+        };
+        let names = declared(item_of(words, seen.len, self.base, seen.findings.ops));
+        let faults = gather(
+            words,
+            seen.findings,
+            at.start as u32,
+            self.l.work,
+            at.faults,
+        );
+        Walked {
+            start: at.start + seen.len + 1,
+            before: at.before + names,
+            faults,
+        }
     }
-    at.faults
+
+    // The faults of a file, gathered from the room to work in on: how many they are. What stands between the slot and that stays as it was.
+    pub fn review<S: Source>(self, source: &S, words: &mut [u32]) -> usize
+        requires fits { S.Source.fits source.now (texts_in self.l words.old) }
+        requires ready { Ready (S.Source.holds source.now (texts_in self.l words.old)) self.l words.old }
+        requires asked { (x : File) × Asked (S.Source.holds source.now (texts_in self.l words.old)) self.file x × Roomy self.l self.base (length x.text) words.old }
+        ensures kept { table_row self.l words.new ≡ table_row self.l words.old }
+        ensures within { self.l.work + 4 * result ≤ length words.new }
+        ensures finds { (x : File) → Asked (S.Source.holds source.now (texts_in self.l words.old)) self.file x → gathered words.new self.l.work result ≡ faults_of (all_spoken (S.Source.holds source.now (texts_in self.l words.old)) x) }
+    {
+        let lines = source.lines(self.l.texts_of(words), self.file);
+        let mut at = Walked {
+            start: 0,
+            before: 0,
+            faults: 0,
+        };
+        for i in 0..lines {
+            at = self.review_line(source, words, i, at);
+        }
+        at.faults
+    }
 }

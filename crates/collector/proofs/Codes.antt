@@ -11,11 +11,11 @@ use Rattle.parser.specs.Rows.{ops}
 use Rattle.syntax.specs.Line.{item_in}
 use Rattle.syntax.proofs.Views.{ops_take, ops_drop}
 use Rattle.declarations.proofs.Found.{ops_length}
-use Rattle.collector.specs.declared.Layout.{Layout}
+use Rattle.symbols.specs.declared.layout.Layout.{Layout}
 use Rattle.collector.specs.declared.line.Loaded.{Loaded}
 use Rattle.collector.specs.Rows.{Wrote}
 use Rattle.collector.specs.Says.{plain, line_of, Loads}
-use Rattle.collector.proofs.Writes.{part_same, front_same}
+use Rattle.collector.proofs.Writes.{part_same, front_same, order_kept}
 use Rattle.collector.proofs.Heads.{plain_decls}
 
 -- the fields of a declaration stand behind the first operation
@@ -99,6 +99,7 @@ loads_kept l ws vs r a b h k w p =
     let n = 5 * r.count in
     let part : drop l.work (take (l.work + n) vs) ≡ drop l.work (take (l.work + n) ws) = drop-take l.work n vs ∙ part_same ws vs l.work n w.long (λ i x y. w.behind i (omega arith)) ∙ sym (drop-take l.work n ws) in
     record {
+      order = order_kept l ws vs w.long p.order;
       short = p.short;
       code_in = omega (arith, w.long, p.code_in);
       code_is = ap (λ x. ops x (drop l.work (take (l.work + n) vs))) e ∙ ap (ops (line_of ws r)) part ∙ p.code_is ∙ ap (λ x. item_code (plain (item_in x))) (sym e);

@@ -5,10 +5,11 @@ use Rattle.std.proofs.lemmas.List.{append-nil, append_assoc, length-append, map-
 use Rattle.lexer.specs.Tokens.{toks, gap}
 use Rattle.semantics.specs.Names.{Decl, decls_item}
 use Rattle.semantics.proofs.Lists.{each_cat}
+use Rattle.semantics.specs.Numbers.{sort_number}
 use Rattle.declarations.specs.Theorems.{DeclIn}
 use Rattle.syntax.specs.Line.{item_in}
 use Rattle.symbols.specs.Table.{word}
-use Rattle.collector.specs.declared.Layout.{Layout}
+use Rattle.symbols.specs.declared.layout.Layout.{Layout}
 use Rattle.collector.specs.declared.line.Loaded.{Loaded}
 use Rattle.collector.specs.declared.entry.Head.{Head}
 use Rattle.collector.specs.Rows.{Wrote, Held}
@@ -70,8 +71,8 @@ pub declared_in : (m : List ℕ) (t k : ℕ) (ws vs : List ℕ) (a b n : ℕ) (d
 declared_in m t k ws vs a b n ds h e p = declared_at m t k ws vs a b n ds (omega (arith, words_end m t k ws a b n ds p, p.held.within)) e p
 
 -- one declaration, by its head and its fields
-pub one_entered : (l : Layout) (m line ws vs : List ℕ) (r : Loaded) (k s a i : ℕ) (h : Head) (x y : Decl) → InTexts l m line r → slice_get (decls_item 0 (item_in line)) i ≡ Some x → HeadIs line x h → slice_get (decls_item s (item_in line)) i ≡ Some y → Wrote (a + 9) (a + 9 + 4 * h.slots) ws vs → Held ws a (k ∷ s ∷ r.place ∷ h.sort ∷ h.name.from ∷ h.name.to ∷ h.ty.from ∷ h.ty.to ∷ h.slots ∷ []) → Held vs (a + 9) (slot_words x.fields) → Declared m l.texts k vs a (a + 9 + 4 * h.slots) 1 (y ∷ [])
-one_entered l m line ws vs r k s a i h x y p e d f w hd fl =
+pub one_entered : (l : Layout) (m line ws vs : List ℕ) (r : Loaded) (k s a i : ℕ) (h : Head) (b : ℕ) (x y : Decl) → b ≡ sort_number h.sort → InTexts l m line r → slice_get (decls_item 0 (item_in line)) i ≡ Some x → HeadIs line x h → slice_get (decls_item s (item_in line)) i ≡ Some y → Wrote (a + 9) (a + 9 + 4 * h.slots) ws vs → Held ws a (k ∷ s ∷ r.place ∷ b ∷ h.name.from ∷ h.name.to ∷ h.ty.from ∷ h.ty.to ∷ h.slots ∷ []) → Held vs (a + 9) (slot_words x.fields) → Declared m l.texts k vs a (a + 9 + 4 * h.slots) 1 (y ∷ [])
+one_entered l m line ws vs r k s a i h b x y q p e d f w hd fl =
     let o = r.place - l.texts in
     let same : y ≡ begun s x = begun_same s (item_in line) i x y e f in
     let en : Entry = record { decl = begun s x; ty = d.type; line = o } in
@@ -83,7 +84,7 @@ one_entered l m line ws vs r k s a i h x y p e d f w hd fl =
     let x4 = d.type_from in
     let x5 = d.type_to in
     let x6 = d.slots_are in
-    let is : ◌≡◌ {A = List ℕ} (k ∷ s ∷ r.place ∷ h.sort ∷ h.name.from ∷ h.name.to ∷ h.ty.from ∷ h.ty.to ∷ h.slots ∷ []) (k ∷ s ∷ (l.texts + o) ∷ x.sort ∷ x.from ∷ x.to ∷ d.type.from ∷ d.type.to ∷ length x.fields ∷ []) = cc in
+    let is : ◌≡◌ {A = List ℕ} (k ∷ s ∷ r.place ∷ b ∷ h.name.from ∷ h.name.to ∷ h.ty.from ∷ h.ty.to ∷ h.slots ∷ []) (k ∷ s ∷ (l.texts + o) ∷ x.sort ∷ x.from ∷ x.to ∷ d.type.from ∷ d.type.to ∷ length x.fields ∷ []) = cc in
     let hv = held_wrote ws vs a (a + 9) (a + 9 + 4 * h.slots) _ (omega arith) w hd in
     let whole = held_join vs a (a + 9) (k ∷ s ∷ (l.texts + o) ∷ x.sort ∷ x.from ∷ x.to ∷ d.type.from ∷ d.type.to ∷ length x.fields ∷ []) (slot_words x.fields) (omega arith) (subst (Held vs a) is hv) fl in
     record {

@@ -1,5 +1,6 @@
 -- Fields and parameters written one behind the other.
 use Rattle.std.proofs.Common.{◌≡◌, ℕ, zero, suc, ◌+◌, ◌*◌, ◌<◌, ◌≤◌, List, [], ◌∷◌, ◌++◌, length, get_or, take, drop, Some, sym, refl, ap, ◌∙◌, subst, arith}
+use Rattle.std.proofs.lemmas.Option.{slice_get_within}
 use Rattle.std.specs.List.{slice_get}
 use Rattle.std.proofs.lemmas.List.{length-take, length-take-le, length-drop, get_or-take, get_or-drop, take_all}
 use Rattle.grammar.specs.Grammar.{Field}
@@ -12,7 +13,7 @@ use Rattle.symbols.specs.Table.{word}
 use Rattle.collector.specs.Rows.{Wrote, Held}
 use Rattle.collector.specs.Entries.{slot_words}
 use Rattle.collector.specs.Says.{FieldWords}
-use Rattle.collector.proofs.Heads.{nth_lt, slots_long}
+use Rattle.collector.proofs.Heads.{slots_long}
 use Rattle.collector.proofs.Writes.{held_none, held_join, held_wrote}
 
 pub take_nth : {A : Type 0} (xs : List A) (i : ℕ) (x : A) → slice_get xs i ≡ Some x → take (i + 1) xs ≡ take i xs ++ (x ∷ [])
@@ -63,7 +64,7 @@ fields_more line ws vs us a from n i fs op row w h r l e s wr hr p hv =
     let f = slots_is fs i (op_is line op) o in
     let at = slots_at fs i f.0 (o ∙ ap Some f.1) in
     let words = s line f.0 f.1 in
-    let many : length (take i fs) ≡ i = length-take-le i fs (omega (arith, nth_lt fs i f.0 at)) in
+    let many : length (take i fs) ≡ i = length-take-le i fs (omega (arith, slice_get_within fs i f.0 at)) in
     let long : length (slot_words (take i fs)) ≡ 4 * i = slot_words_long (take i fs) ∙ ap (λ k. 4 * k) many in
     let is : slot_words (take (i + 1) fs) ≡ slot_words (take i fs) ++ row = ap slot_words (take_nth fs i f.0 at) ∙ slots_cat (take i fs) (f.0 ∷ []) ∙ ap (λ ys. slot_words (take i fs) ++ ys) (sym words) in
     subst (Held us a) (sym is) (held_join us a (a + 4 * i) (slot_words (take i fs)) row (omega arith) (held_wrote vs us a (a + 4 * i) (a + 4 * i + length row) (slot_words (take i fs)) (omega arith) wr hv) hr)

@@ -6,13 +6,14 @@ use Rattle.base.specs.Base.{pick}
 use Rattle.lexer.specs.Tokens.{Line, cut, lines}
 use Rattle.semantics.specs.Names.{File, Texts, decls, decls_item, decls_lines}
 use Rattle.syntax.specs.Line.{item_in}
-use Rattle.collector.specs.declared.Layout.{Layout}
+use Rattle.symbols.specs.declared.layout.Layout.{Layout}
 use Rattle.collector.specs.declared.NoRoom.{NoRoom}
 use Rattle.collector.specs.declared.line.Loaded.{Loaded}
 use Rattle.collector.specs.declared.entry.Origin.{Origin}
 use Rattle.collector.specs.declared.entry.Listed.{Listed}
 use Rattle.collector.specs.declared.lines.Put.{Put}
-use Rattle.collector.specs.Rows.{Kept, InOrder, texts_in}
+use Rattle.symbols.specs.Rows.{InOrder, texts_in}
+use Rattle.collector.specs.Rows.{Kept}
 use Rattle.collector.specs.Entries.{Declared, decls_need}
 use Rattle.collector.specs.Says.{line_of, InTexts, LineIn, LineTrouble, LineSays, LoadSays, There, BeginsAt, WentOn, NthIn, NthShort, NthSays, LinesSays}
 use Rattle.collector.proofs.Writes.{kept_none, kept_wrote, kept_on, kept_wider, kept_any, order_kept, texts_kept}

@@ -1,32 +1,33 @@
 -- A file's words, its list and its declarations.
 use Rattle.std.proofs.Common.{◌≡◌, ℕ, ◌+◌, ◌-◌, ◌*◌, ◌<◌, ◌≤◌, ◌⊎◌, List, [], ◌∷◌, length, Some, Ok, Err, ◌∙◌, subst, inl, inr, arith}
+use Rattle.std.proofs.lemmas.Option.{slice_get_within}
 use Rattle.std.specs.List.{slice_get}
 use Rattle.semantics.specs.Names.{File, Texts, decls, used}
 use Rattle.source.specs.declared.Extent.{Extent}
 use Rattle.source.specs.Source.{NameSays, Stands}
 use Rattle.symbols.specs.Table.{word, file_row}
-use Rattle.collector.specs.declared.Layout.{Layout}
+use Rattle.symbols.specs.declared.layout.Layout.{Layout}
 use Rattle.collector.specs.declared.NoRoom.{NoRoom}
 use Rattle.collector.specs.declared.entry.Listed.{Listed}
-use Rattle.collector.specs.Rows.{Wrote, Held, InOrder, texts_in}
+use Rattle.symbols.specs.Rows.{InOrder, texts_in}
+use Rattle.collector.specs.Rows.{Wrote, Held}
 use Rattle.collector.specs.Entries.{Declared, decls_need, uses_need}
 use Rattle.collector.specs.Says.{LineTrouble, UsesSays, LinesSays}
 use Rattle.collector.specs.Collected.{file_need, FileSays}
 use Rattle.collector.proofs.Writes.{kept_on, order_kept, texts_kept}
-use Rattle.collector.proofs.Heads.{nth_lt}
 use Rattle.collector.proofs.Entered.{declared_in, need_many}
 use Rattle.collector.proofs.Used.{using_in, using_end}
 
 module _ (p : Texts) (l : Layout) (k a : ℕ) (ws us : List ℕ) (o : InOrder l ws) (low : l.index + 1 + 6 * length p ≤ a) (high : a ≤ l.work) (x : File) (there : slice_get p k ≡ Some x) where
   -- the file's words lie before the lists
   pub row_low : file_row l.index k + 6 ≤ a
-  row_low = omega (arith, nth_lt p k x there)
+  row_low = omega (arith, slice_get_within p k x there)
 
   pub few_files : length p < 4294967296
   few_files = omega (arith, o.row, o.small)
 
   pub file_small : k < 4294967296
-  file_small = omega (arith, nth_lt p k x there, few_files)
+  file_small = omega (arith, slice_get_within p k x there, few_files)
 
   pub file_unlisted : (z : NoRoom) → UsesSays p l k ws a us (Err z) → FileSays p l k ws a us (Err z)
   file_unlisted z s = (s.0, why s.1)

@@ -69,11 +69,6 @@ each_nth P [] i x p e = let z : ◌≡◌ {A = ℕ} 0 1 = cc in absurd (omega ar
 each_nth P (y ∷ ys) zero x p e = let s : y ≡ x = cc in subst P s p.0
 each_nth P (y ∷ ys) (suc i) x p e = each_nth P ys i x p.1 e
 
-pub nth_lt : {A : Type 0} (xs : List A) (i : ℕ) (x : A) → slice_get xs i ≡ Some x → i < length xs
-nth_lt [] i x e = let z : ◌≡◌ {A = ℕ} 0 1 = cc in absurd (omega arith)
-nth_lt (y ∷ ys) zero x e = omega arith
-nth_lt (y ∷ ys) (suc i) x e = omega (arith, nth_lt ys i x e)
-
 pub nth_some : {A : Type 0} (xs : List A) (i : ℕ) → i < length xs → (x : A) × (slice_get xs i ≡ Some x)
 nth_some [] i h = absurd (omega arith)
 nth_some (y ∷ ys) zero h = (y, refl)

@@ -1,23 +1,20 @@
 -- All that a line declares, one declaration after the other.
-use Rattle.std.proofs.Common.{◌≡◌, ℕ, zero, suc, ◌+◌, ◌*◌, ◌<◌, ◌≤◌, List, [], ◌∷◌, length, take, Some, Ok, Err, sym, ap, ◌∙◌, subst, arith}
+use Rattle.std.proofs.Common.{◌≡◌, ℕ, zero, suc, ◌+◌, ◌<◌, ◌≤◌, List, [], ◌∷◌, length, take, Some, Ok, Err, sym, ap, ◌∙◌, subst, arith}
 use Rattle.std.specs.List.{slice_get}
 use Rattle.std.proofs.lemmas.List.{take_all}
 use Rattle.semantics.specs.Names.{Decl, decls_item}
-use Rattle.grammar.specs.Grammar.{Item}
-use Rattle.grammar.specs.Code.{item_code}
-use Rattle.parser.specs.Rows.{ops_of}
 use Rattle.declarations.specs.Declares.{CountSays}
 use Rattle.syntax.specs.Line.{item_in}
 use Rattle.syntax.specs.View.{ViewSays}
 use Rattle.syntax.specs.declared.view.Item.{Item as View}
-use Rattle.collector.specs.declared.Layout.{Layout}
+use Rattle.symbols.specs.declared.layout.Layout.{Layout}
 use Rattle.collector.specs.declared.NoRoom.{NoRoom}
 use Rattle.collector.specs.declared.line.Loaded.{Loaded}
 use Rattle.collector.specs.declared.entry.Origin.{Origin}
-use Rattle.collector.specs.Rows.{Wrote, InOrder}
+use Rattle.collector.specs.Rows.{Wrote}
 use Rattle.collector.specs.Entries.{Declared, decl_need, decls_need}
 use Rattle.collector.specs.Says.{plain, line_of, Loads, InTexts, WroteOn, EntrySays}
-use Rattle.collector.proofs.Writes.{wrote_none, wrote_on, wrote_wider, order_kept}
+use Rattle.collector.proofs.Writes.{wrote_none, wrote_on, wrote_wider}
 use Rattle.collector.proofs.Heads.{nth_some, plain_decls, item_many}
 use Rattle.collector.proofs.Fields.{take_nth}
 use Rattle.collector.proofs.Codes.{line_kept, loads_kept}
@@ -28,11 +25,10 @@ abbrev pub said : List ℕ → Loaded → Origin → List Decl
 said ws r by = decls_item by.start (item_in (line_of ws r))
 
 -- how many there are
-pub many : (l : Layout) (ws : List ℕ) (r : Loaded) (by : Origin) → InOrder l ws → Loads l ws r → (v : View) (n : ℕ) → ((i : Item) → r.len ≤ length ws → l.work + 5 * r.count ≤ length ws → ops_of (line_of ws r) l.work r.count ws ≡ item_code i → ViewSays (line_of ws r) i v) → CountSays v n → n ≡ length (said ws r by)
-many l ws r by o h v n view count =
-    let line = line_of ws r in
-    let it = item_in line in
-    count line (plain it) (view (plain it) (omega (arith, h.short, o.slot, o.table, o.row)) h.code_in h.code_is) ∙ ap length (plain_decls 0 it) ∙ item_many 0 by.start it
+pub many : (ws : List ℕ) (r : Loaded) (by : Origin) → (v : View) (n : ℕ) → ViewSays (line_of ws r) (plain (item_in (line_of ws r))) v → CountSays v n → n ≡ length (said ws r by)
+many ws r by v n view count =
+    let it = item_in (line_of ws r) in
+    count (line_of ws r) (plain it) view ∙ ap length (plain_decls 0 it) ∙ item_many 0 by.start it
 
 -- the first i of them stand
 pub record Partly (l : Layout) (ws : List ℕ) (r : Loaded) (by : Origin) (a i to : ℕ) (vs : List ℕ) : Type 0 where
@@ -48,19 +44,16 @@ need_take (d ∷ ds) (suc i) x e = omega (arith, need_take ds i x e)
 need_more : (ds : List Decl) (i : ℕ) (x : Decl) → slice_get ds i ≡ Some x → decls_need (take (i + 1) ds) ≡ decls_need (take i ds) + decl_need x
 need_more ds i x e = ap decls_need (take_nth ds i x e) ∙ need_cat (take i ds) (x ∷ []) ∙ omega arith
 
-module _ (l : Layout) (ws : List ℕ) (r : Loaded) (by : Origin) (a : ℕ) (o : InOrder l ws) (ld : Loads l ws r) (low : l.index ≤ a) where
+module _ (l : Layout) (ws : List ℕ) (r : Loaded) (by : Origin) (a : ℕ) (ld : Loads l ws r) (low : l.index ≤ a) where
   pub partly_none : a ≤ l.work → Partly l ws r by a 0 a ws
-  partly_none h = record { wrote = record { onward = omega arith; within = h; wrote = wrote_none a ws }; ends = omega arith; stands = λ m p. declared_none m l.texts by.file ws a (omega (arith, o.row)) }
+  partly_none h = record { wrote = record { onward = omega arith; within = h; wrote = wrote_none a ws }; ends = omega arith; stands = λ m p. declared_none m l.texts by.file ws a (omega (arith, ld.order.row)) }
 
   -- the line is there still
   pub still : (i to : ℕ) (vs : List ℕ) → Partly l ws r by a i to vs → line_of vs r ≡ line_of ws r
-  still i to vs p = line_kept l ws vs r a to (omega (arith, o.slot)) p.wrote.wrote ld
-
-  pub still_order : (i to : ℕ) (vs : List ℕ) → Partly l ws r by a i to vs → InOrder l vs
-  still_order i to vs p = order_kept l ws vs p.wrote.wrote.long o
+  still i to vs p = line_kept l ws vs r a to (omega (arith, ld.order.slot)) p.wrote.wrote ld
 
   pub still_loads : (i to : ℕ) (vs : List ℕ) → Partly l ws r by a i to vs → Loads l vs r
-  still_loads i to vs p = loads_kept l ws vs r a to (omega (arith, o.slot)) p.wrote.within p.wrote.wrote ld
+  still_loads i to vs p = loads_kept l ws vs r a to (omega (arith, ld.order.slot)) p.wrote.within p.wrote.wrote ld
 
   pub partly_more : (i to t : ℕ) (vs us : List ℕ) → i < length (said ws r by) → Partly l ws r by a i to vs → EntrySays l vs r by i to us (Ok t) → Partly l ws r by a (i + 1) t us
   partly_more i to t vs us h p s =

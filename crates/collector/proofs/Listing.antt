@@ -7,10 +7,11 @@ use Rattle.lexer.specs.Tokens.{lines}
 use Rattle.semantics.specs.Names.{File, Texts, uses_item, uses_lines, used}
 use Rattle.semantics.specs.Read.{with_used}
 use Rattle.syntax.specs.Line.{item_in}
-use Rattle.collector.specs.declared.Layout.{Layout}
+use Rattle.symbols.specs.declared.layout.Layout.{Layout}
 use Rattle.collector.specs.declared.NoRoom.{NoRoom}
 use Rattle.collector.specs.declared.line.Loaded.{Loaded}
-use Rattle.collector.specs.Rows.{Kept, InOrder, texts_in}
+use Rattle.symbols.specs.Rows.{InOrder, texts_in}
+use Rattle.collector.specs.Rows.{Kept}
 use Rattle.collector.specs.Entries.{Using, uses_need}
 use Rattle.collector.specs.Says.{line_of, LineIn, LineTrouble, LoadSays, WentOn, PutUseSays, UseShort, NthUseSays, UsesSays}
 use Rattle.collector.proofs.Writes.{kept_none, kept_wrote, kept_on, kept_wider, kept_any, order_kept, texts_kept}

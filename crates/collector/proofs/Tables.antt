@@ -1,19 +1,21 @@
 -- The table of all files.
 use Rattle.std.proofs.Common.{◌≡◌, ℕ, zero, suc, ◌+◌, ◌-◌, ◌*◌, ◌<◌, ◌≤◌, ◌⊎◌, List, [], ◌∷◌, length, get_or, take, drop, Some, Ok, Err, sym, refl, ap, ◌∙◌, subst, inl, inr, arith}
+use Rattle.std.proofs.lemmas.Option.{slice_get_within}
 use Rattle.std.specs.List.{slice_get}
 use Rattle.std.proofs.lemmas.List.{length-take, length-drop, length-map, get_or-take, get_or-drop, drop-drop, take-take}
 use Rattle.std.proofs.lemmas.Bool.{cases_lt}
 use Rattle.semantics.specs.Names.{File, Texts, decls, used}
 use Rattle.symbols.specs.Table.{word, text_at, file_row, file_name, used_in, first_decl, decl_count, decls_from}
 use Rattle.symbols.specs.Tabled.{Uses, Owned, FileTabled, Tabled}
-use Rattle.collector.specs.declared.Layout.{Layout}
+use Rattle.symbols.specs.declared.layout.Layout.{Layout}
 use Rattle.collector.specs.declared.NoRoom.{NoRoom}
-use Rattle.collector.specs.Rows.{Kept, Held, InOrder, texts_in}
+use Rattle.symbols.specs.Rows.{InOrder, texts_in}
+use Rattle.collector.specs.Rows.{Kept, Held}
 use Rattle.collector.specs.Entries.{decl_of}
 use Rattle.collector.specs.Says.{LineTrouble}
 use Rattle.collector.specs.Collected.{file_need, files_need, table_need, FileStands, FileWrote, FileSays, Collected, TooFew}
 use Rattle.collector.proofs.Writes.{held_at, kept_none, kept_wider, order_kept, texts_kept}
-use Rattle.collector.proofs.Heads.{nth_lt, nth_some}
+use Rattle.collector.proofs.Heads.{nth_some}
 use Rattle.collector.proofs.Loading.{cut_in}
 use Rattle.collector.proofs.Entered.{declared_at}
 use Rattle.collector.proofs.Used.{using_at, using_end}
@@ -219,7 +221,7 @@ module _ (p : Texts) (l : Layout) (ws : List ℕ) (o : InOrder l ws) where
 
         tabled : (j : ℕ) (f : File) → slice_get p j ≡ Some f → FileTabled p us l.index j f
         tabled j f q =
-            let lt = nth_lt p j f q in
+            let lt = slice_get_within p j f q in
             let d = t.done j f (omega arith) q in
             let e = t.ends in
             let i0 = t.within in

@@ -1,8 +1,8 @@
 -- The files that a file uses, each once.
-use Rattle.std.proofs.Common.{◌≡◌, ℕ, zero, suc, ◌+◌, ◌-◌, ◌<◌, ◌≤◌, Bool, true, false, List, [], ◌∷◌, ◌++◌, length, get_or, take, Some, sym, refl, ap, ◌∙◌, subst, inl, inr, arith, rules}
+use Rattle.std.proofs.Common.{◌≡◌, ℕ, zero, suc, ◌+◌, ◌-◌, ◌<◌, ◌≤◌, Bool, true, false, List, [], ◌∷◌, ◌++◌, length, get_or, take, drop, Some, MatchBool, sym, refl, ap, ◌∙◌, subst, inl, inr, arith, rules}
 use mathlib.Core.Option.{some, none}
-use Rattle.std.specs.List.{slice_get}
-use Rattle.std.proofs.lemmas.List.{length-append}
+use Rattle.std.specs.List.{slice_get, HoldsAt, AllWithin}
+use Rattle.std.proofs.lemmas.List.{length-append, length-take-le, length-drop, get_or-take, get_or-drop}
 use Rattle.std.proofs.lemmas.Slice.Eq.{compares_Decides}
 use Rattle.std.proofs.lemmas.Bool.{cases_Bool, both_ways, or_left, or_right, or_from}
 use Rattle.base.specs.Base.{Word, pick, same, among, is_some}
@@ -15,6 +15,7 @@ use Rattle.symbols.specs.Table.{word}
 use Rattle.symbols.specs.Tabled.{Uses, no_more, absent, present}
 use Rattle.collector.specs.Rows.{Wrote, Held}
 use Rattle.collector.specs.Entries.{Using, uses_need}
+use Rattle.collector.specs.Says.{NamedSays}
 use Rattle.collector.proofs.Writes.{held_none, held_join, held_at, held_in}
 
 pub same_true : (a b : Word) → same a b ≡ true → a ≡ b
@@ -81,6 +82,13 @@ uses_file p (absent a u) j h = uses_file p u j h
 uses_file p (present a u) zero h = (a.0, a.1)
 uses_file p (present a u) (suc j) h = uses_file p u j (omega arith)
 
+-- a part of the row, and its words
+pub part_ends : (ws : List ℕ) (from to : ℕ) → from ≤ to → to ≤ length ws → length (take (to - from) (drop from ws)) ≡ to - from
+part_ends ws from to h k = length-take-le (to - from) (drop from ws) (omega (arith, length-drop from ws))
+
+pub part_word : (ws : List ℕ) (from to i : ℕ) → from + i < to → get_or (take (to - from) (drop from ws)) i 0 ≡ word ws (from + i)
+part_word ws from to i h = get_or-take (to - from) (drop from ws) i 0 (omega arith) ∙ get_or-drop from ws i 0
+
 -- looking through a list in words
 pub listed_hit : (p : Texts) (w : Word) (ws : List ℕ) (from to j : ℕ) (ns : List Word) (b : Bool) → from ≤ j → j < to → Using p ws from to ns → ((y : File) → slice_get p (word ws j) ≡ Some y → b ≡ same y.name w) → b ≡ true → true ≡ among w ns
 listed_hit p w ws from to j ns b h k u n e =
@@ -94,6 +102,18 @@ listed_hit p w ws from to j ns b h k u n e =
 pub listed_miss : (p : Texts) (w : Word) (ws : List ℕ) (from to j : ℕ) (ns : List Word) (x : File) → to ≤ j → Using p ws from to ns → find_file p w ≡ some x → ((k : ℕ) → from ≤ k → k < j → (y : File) → slice_get p (word ws k) ≡ Some y → same y.name w ≡ true → ⊥) → false ≡ among w ns
 listed_miss p w ws from to j ns x h u f n =
     sym (among_miss p w x f u.uses (λ i lt y e s. n (from + i) (omega arith) (omega (arith, u.ends)) y (ap (slice_get p) (u.held.reads i lt) ∙ e) s))
+
+-- whether some file of the list has the name
+pub listed_by : (p : Texts) (w : Word) (ws : List ℕ) (from to : ℕ) (ns : List Word) (x : File) (r : Bool) → from ≤ to → to ≤ length ws → MatchBool r ((k : ℕ) × (k < length (take (to - from) (drop from ws))) × HoldsAt (λ k. NamedSays p k w true) (take (to - from) (drop from ws)) k) (AllWithin (λ k. NamedSays p k w false) (take (to - from) (drop from ws)) 0 (length (take (to - from) (drop from ws)))) → Using p ws from to ns → find_file p w ≡ some x → r ≡ among w ns
+listed_by p w ws from to ns x true h k m u f =
+    let in1 : from + m.0 < to = omega (arith, m.1, part_ends ws from to h k) in
+    listed_hit p w ws from to (from + m.0) ns true (omega arith) in1 u (λ y q. m.2 0 y (ap (slice_get p) (part_word ws from to m.0 in1) ∙ q)) refl
+listed_by p w ws from to ns x false h k m u f =
+    listed_miss p w ws from to to ns x (omega arith) u f (λ j a b y q s.
+    let i = j - from in
+    let back : from + i ≡ j = omega arith in
+    let e = part_ends ws from to h k in
+    both_ways (same y.name w) (sym (m i 0 (omega arith) (omega (arith, e)) y (ap (slice_get p) (part_word ws from to i (omega arith) ∙ ap (word ws) back) ∙ q))) s)
 
 -- what a use of a name adds to the names before it
 module _ (me w : Word) (ns : List Word) where

@@ -1,50 +1,11 @@
 -- On words written and kept.
-use Rattle.std.proofs.Common.{◌≡◌, ℕ, ◌+◌, ◌-◌, ◌<◌, ◌≤◌, min, List, [], ◌++◌, length, get_or, take, drop, sym, refl, ap, ◌∙◌, inl, inr, arith}
-use borrow.Rule.Slice.PartMut.{put_mid}
-use Rattle.std.proofs.lemmas.List.{length-append, length-take, length-take-le, length-drop, get_or_append_left, get_or-append_right, get_or-take, get_or-drop, ext_get_or}
+use Rattle.std.proofs.Common.{◌≡◌, ℕ, ◌+◌, ◌-◌, ◌<◌, ◌≤◌, min, List, [], ◌++◌, length, take, drop, sym, refl, ap, ◌∙◌, inl, inr, arith}
+use Rattle.std.proofs.lemmas.List.{length-append, length-take, length-drop, get_or_append_left, get_or-append_right, get_or-take, get_or-drop, ext_get_or}
 use Rattle.std.proofs.lemmas.Bool.{cases_lt}
 use Rattle.symbols.specs.Table.{word}
-use Rattle.collector.specs.declared.Layout.{Layout}
-use Rattle.collector.specs.Rows.{Wrote, Kept, Held, InOrder, texts_in}
-
--- words put over others
-module _ (a k : ℕ) (ws ys xs : List ℕ) (e : ys ≡ xs) (h : length xs ≡ k) (r : a + k ≤ length ws) where
-  vs : List ℕ
-  vs = put_mid a k ws ys
-
-  front : length (take a ws) ≡ a
-  front = length-take-le a ws (omega arith)
-
-  rest : length (drop k (drop a ws)) ≡ length ws - a - k
-  rest = length-drop k (drop a ws) ∙ ap (λ n. n - k) (length-drop a ws)
-
-  same_length : length ys ≡ k
-  same_length = ap length e ∙ h
-
-  pub put_long : length (put_mid a k ws ys) ≡ length ws
-  put_long = length-append (take a ws) (ys ++ drop k (drop a ws)) ∙ omega (arith, front, rest, same_length, length-append ys (drop k (drop a ws)))
-
-  pub put_before : (i : ℕ) → i < a → word (put_mid a k ws ys) i ≡ word ws i
-  put_before i l = get_or_append_left (take a ws) (ys ++ drop k (drop a ws)) 0 i (omega (arith, front)) ∙ get_or-take a ws i 0 l
-
-  pub put_in : (j : ℕ) → j < k → word (put_mid a k ws ys) (a + j) ≡ word xs j
-  put_in j l =
-      let n : a + j - a ≡ j = omega arith in
-      get_or-append_right (take a ws) (ys ++ drop k (drop a ws)) a (a + j) 0 front (omega arith) ∙
-      ap (λ i. get_or (ys ++ drop k (drop a ws)) i 0) n ∙ get_or_append_left ys (drop k (drop a ws)) 0 j (omega (arith, same_length)) ∙ ap (λ zs. get_or zs j 0) e
-
-  pub put_behind : (i : ℕ) → a + k ≤ i → word (put_mid a k ws ys) i ≡ word ws i
-  put_behind i l =
-      let n : a + (k + (i - a - k)) ≡ i = omega arith in
-      get_or-append_right (take a ws) (ys ++ drop k (drop a ws)) a i 0 front (omega arith) ∙
-      get_or-append_right ys (drop k (drop a ws)) k (i - a) 0 same_length (omega arith) ∙
-      get_or-drop k (drop a ws) (i - a - k) 0 ∙ get_or-drop a ws (k + (i - a - k)) 0 ∙ ap (λ z. get_or ws z 0) n
-
-  pub put_wrote : Wrote a (a + length xs) ws (put_mid a k ws ys)
-  put_wrote = record { long = put_long; before = put_before; behind = λ i l. put_behind i (omega arith) }
-
-  pub put_held : Held (put_mid a k ws ys) a xs
-  put_held = record { within = omega (arith, put_long); reads = λ j l. put_in j (omega arith) }
+use Rattle.symbols.specs.declared.layout.Layout.{Layout}
+use Rattle.symbols.specs.Rows.{InOrder, texts_in}
+use Rattle.collector.specs.Rows.{Wrote, Kept, Held}
 
 -- nothing was written
 pub wrote_none : (a : ℕ) (ws : List ℕ) → Wrote a a ws ws

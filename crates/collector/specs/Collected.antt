@@ -6,9 +6,10 @@ use Rattle.source.specs.declared.Extent.{Extent}
 use Rattle.source.specs.Source.{Stands}
 use Rattle.symbols.specs.Table.{word, file_row}
 use Rattle.symbols.specs.Tabled.{Tabled}
-use Rattle.collector.specs.declared.Layout.{Layout}
+use Rattle.symbols.specs.declared.layout.Layout.{Layout}
 use Rattle.collector.specs.declared.NoRoom.{NoRoom}
-use Rattle.collector.specs.Rows.{Kept, Held, texts_in}
+use Rattle.symbols.specs.Rows.{texts_in}
+use Rattle.collector.specs.Rows.{Kept, Held}
 use Rattle.collector.specs.Entries.{Declared, Using, decls_need, uses_need}
 use Rattle.collector.specs.Says.{LineTrouble}
 

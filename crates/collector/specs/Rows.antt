@@ -1,7 +1,7 @@
 -- Words of a row: which of them were written, and what stands in them.
-use Rattle.std.specs.Prelude.{◌≡◌, ℕ, ◌+◌, ◌-◌, ◌<◌, ◌≤◌, List, length, take, drop}
+use Rattle.std.specs.Prelude.{◌≡◌, ℕ, ◌+◌, ◌<◌, ◌≤◌, List, length}
 use Rattle.symbols.specs.Table.{word}
-use Rattle.collector.specs.declared.Layout.{Layout}
+use Rattle.symbols.specs.declared.layout.Layout.{Layout}
 
 -- only words between two places were written
 pub record Wrote (from to : ℕ) (ws vs : List ℕ) : Type 0 where
@@ -19,14 +19,3 @@ pub record Kept (l : Layout) (from to : ℕ) (ws vs : List ℕ) : Type 0 where
 pub record Held (ws : List ℕ) («at» : ℕ) (xs : List ℕ) : Type 0 where
   pub within : «at» + length xs ≤ length ws
   pub reads : (j : ℕ) → j < length xs → word ws («at» + j) ≡ word xs j
-
--- the parts of the row lie one behind the other, and places fit into words
-pub record InOrder (l : Layout) (ws : List ℕ) : Type 0 where
-  pub slot : l.texts ≤ l.index
-  pub table : l.index ≤ l.work
-  pub row : l.work ≤ length ws
-  pub small : length ws < 4294967296
-
--- the texts' words
-abbrev pub texts_in : Layout → List ℕ → List ℕ
-texts_in l ws = take (l.index - l.texts) (drop l.texts ws)

@@ -13,14 +13,17 @@ use Rattle.parser.specs.Rows.{ops_of, op_is}
 use Rattle.parser.specs.declared.code.Op.{Op}
 use Rattle.parser.specs.declared.code.Span.{Span}
 use Rattle.syntax.specs.Line.{item_in, room_for}
-use Rattle.collector.specs.declared.Layout.{Layout}
+use Rattle.semantics.specs.Numbers.{sort_number}
+use Rattle.source.specs.declared.Extent.{Extent}
+use Rattle.symbols.specs.declared.layout.Layout.{Layout}
 use Rattle.collector.specs.declared.NoRoom.{NoRoom}
 use Rattle.collector.specs.declared.line.Loaded.{Loaded}
 use Rattle.collector.specs.declared.entry.Head.{Head}
 use Rattle.collector.specs.declared.entry.Origin.{Origin}
 use Rattle.collector.specs.declared.entry.Listed.{Listed}
 use Rattle.collector.specs.declared.lines.Put.{Put}
-use Rattle.collector.specs.Rows.{Wrote, Kept, texts_in}
+use Rattle.symbols.specs.Rows.{InOrder, texts_in}
+use Rattle.collector.specs.Rows.{Wrote, Kept}
 use Rattle.collector.specs.Entries.{Declared, Using, decl_need, decls_need, uses_need}
 
 -- a line that isn't understood says nothing
@@ -35,8 +38,9 @@ plain (i_bad a b) = nothing
 abbrev pub line_of : List ℕ → Loaded → List ℕ
 line_of ws r = take r.len ws
 
--- a line stands at the front of the row, and its code in the room to work in
+-- a line stands in the slot of a row, and its code in the room to work in
 pub record Loads (l : Layout) (ws : List ℕ) (r : Loaded) : Type 0 where
+  pub order : InOrder l ws
   pub short : r.len ≤ l.texts
   pub code_in : l.work + 5 * r.count ≤ length ws
   pub code_is : ops_of (line_of ws r) l.work r.count ws ≡ item_code (plain (item_in (line_of ws r)))
@@ -51,10 +55,10 @@ pub record InTexts (l : Layout) (m bytes : List ℕ) (r : Loaded) : Type 0 where
 abbrev pub TooLong : Layout → ℕ → ℕ → Type 0
 TooLong l long len = (l.texts < len) ⊎ (long < l.work + room_for len)
 
--- a line was copied and read, or is too long; the texts and the table are as they were
-abbrev pub ReadSays : Layout → List ℕ → ℕ → ℕ → List ℕ → Result Loaded NoRoom → Type 0
-ReadSays l ws place len vs (Ok r) = Kept l l.index l.index ws vs × Loads l vs r × (r.place ≡ place) × (r.len ≡ len) × (line_of vs r ≡ take len (drop place ws))
-ReadSays l ws place len vs (Err e) = Kept l l.index l.index ws vs × TooLong l (length ws) len
+-- the line that stands in the slot was read, or is too long; the texts and the table are as they were
+abbrev pub ReadSays : Layout → List ℕ → Extent → List ℕ → Result Loaded NoRoom → Type 0
+ReadSays l ws e vs (Ok r) = Kept l l.index l.index ws vs × Loads l vs r × (r.place ≡ e.from) × (r.len ≡ e.len) × (line_of vs r ≡ take e.len ws)
+ReadSays l ws e vs (Err z) = Kept l l.index l.index ws vs × TooLong l (length ws) e.len
 
 -- the i-th line of a file is the one that was read
 pub record LineIn (x : File) (l : Layout) (i : ℕ) (ws vs : List ℕ) (r : Loaded) : Type 0 where
@@ -82,7 +86,7 @@ LoadSays p l file i ws vs (Err e) = Kept l l.index l.index ws vs × LineTrouble 
 
 -- the i-th of what a line declares, without its fields
 pub record HeadIs (bytes : List ℕ) (x : Decl) (h : Head) : Type 0 where
-  pub sort_is : x.sort ≡ h.sort
+  pub sort_is : x.sort ≡ sort_number h.sort
   pub from_is : x.from ≡ h.name.from
   pub to_is : x.to ≡ h.name.to
   pub type : Tok

@@ -1,4 +1,6 @@
-// The symbol table of texts, collected from their lines into a row of words. The table's layout stands in the crate symbols.
+// The symbol table of texts, collected from their lines into a row of words. The table's layout stands in the crate symbols. A file goes with
+// the layout of its row; source and words stay parameters of their own, for each clause names both, and through a struct each name would be a
+// path. Lines and files are asked of the source by number.
 #![tactic(auto)]
 
 pub mod collect;
@@ -8,15 +10,6 @@ mod lines;
 mod row;
 mod uses;
 
-// The parts of the row: up to texts a place into which a line is copied to be read, up to index the words of the texts, up to work the
-// table, and behind it room to work in.
-#[derive(Clone, Copy)]
-pub struct Layout {
-    pub texts: usize,
-    pub index: usize,
-    pub work: usize,
-}
-
 // Too few words were lent.
-#[derive(Clone, Copy)]
+#[derive(Clone, Copy, PartialEq, Eq, Debug)]
 pub struct NoRoom;

@@ -1,31 +1,18 @@
 -- Steps of the loops that look names up.
-use Rattle.std.proofs.Common.{◌≡◌, ℕ, zero, suc, ◌+◌, ◌<◌, ◌≤◌, min, Bool, true, false, List, [], ◌∷◌, length, Some, None, Option as Perhaps, sym, refl, ap, ◌∙◌, inl, inr, arith}
-use Rattle.std.proofs.lemmas.List.{get_or_past}
-use Rattle.std.proofs.lemmas.Bool.{cases_lt, lt-ltb, le-ltb, ltb-true}
+use Rattle.std.proofs.Common.{◌≡◌, ℕ, zero, suc, ◌+◌, ◌-◌, ◌<◌, ◌≤◌, min, MatchOption, Bool, true, false, List, [], ◌∷◌, length, Some, None, Option as Perhaps, sym, refl, ap, ◌∙◌, arith}
+use Rattle.std.proofs.lemmas.Bool.{lt-ltb, ltb-true}
 use Rattle.base.specs.Base.{pick, Word, same}
-use Rattle.lexer.specs.Words.{k_num, k_bool}
 use Rattle.checker.specs.declared.lookup.Meaning.{Meaning}
 use Rattle.checker.specs.declared.lookup.Meaning.TheVariants.{Found, Unknown, Several}
-use Rattle.typed_lookup.specs.declared.lookup.«Type».TheVariants.{None as Untyped, Num, Bool as Truth, Of}
-use Rattle.typed_lookup.specs.Types.{Small}
+use Rattle.checker.specs.declared.lookup.«Type».TheVariants.{Of}
+use Rattle.checker.specs.Types.{SomeSmall}
 use Rattle.symbols.specs.Table.{word, file_name, used_in, first_decl, decl_count, decl_name, decl_long}
-use Rattle.resolver.specs.Resolve.{limit, in_row, seek, named_from, own, also, among_used, found_or, meaning, is_type, found_type, type_named}
-
--- a place cut down to the largest number
-pub far_word : (ws : List ℕ) (i j : ℕ) → j ≡ min i 18446744073709551615 → length ws ≤ 18446744073709551615 → word ws j ≡ word ws i
-far_word ws i j e h =
-    elim (cases_lt i 18446744073709551615) [ inl l ↦ (let q : j ≡ i = omega arith in ap (word ws) q) | inr l ↦ get_or_past ws j 0 (omega arith) ∙ sym (get_or_past ws i 0 (omega arith)) ]
+use Rattle.resolver.specs.Resolve.{limit, in_row, seek, named_from, own, also, among_used, found_or, meaning, is_type, found_type}
 
 -- one declaration more
 module _ (ws : List ℕ) (w : Word) (n m d : ℕ) (q : n ≡ suc m) where
-  pub seek_hit : d < min (length ws) limit → same (decl_name ws d) w ≡ true → seek ws w n d ≡ Some d
-  seek_hit l e = ap (λ n. seek ws w n d) q ∙ (λ i. pick (lt-ltb d (min (length ws) limit) l i) (pick (e i) (Some d) (seek ws w m (d + decl_long ws d))) None)
-
   pub seek_miss : d < min (length ws) limit → same (decl_name ws d) w ≡ false → seek ws w n d ≡ seek ws w m (d + decl_long ws d)
   seek_miss l e = ap (λ n. seek ws w n d) q ∙ (λ i. pick (lt-ltb d (min (length ws) limit) l i) (pick (e i) (Some d) (seek ws w m (d + decl_long ws d))) None)
-
-  pub seek_past : min (length ws) limit ≤ d → seek ws w n d ≡ None
-  seek_past l = ap (λ n. seek ws w n d) q ∙ (λ i. pick (le-ltb d (min (length ws) limit) l i) (pick (same (decl_name ws d) w) (Some d) (seek ws w m (d + decl_long ws d))) None)
 
 -- one file more
 module _ (ws : List ℕ) (x : ℕ) (w : Word) (n m k : ℕ) (q : n ≡ suc m) where
@@ -68,18 +55,32 @@ or_low : (r : Perhaps ℕ) (m : Meaning) → LowFound r → LowMeaning m → Low
 or_low None m h l = l
 or_low (Some d) m h l = h
 
-type_low : (ws : List ℕ) (m : Meaning) → LowMeaning m → Small (found_type ws m)
+type_low : (ws : List ℕ) (m : Meaning) → LowMeaning m → SomeSmall (found_type ws m)
 type_low ws Unknown l = tt
 type_low ws Several l = tt
 type_low ws (Found s) l = go (is_type (word ws (s.0 + 3)))
   where
-    go : (b : Bool) → Small (pick b (Of (record { 0 = s.0 })) Untyped)
+    go : (b : Bool) → SomeSmall (pick b (Some (Of (record { 0 = s.0 }))) None)
     go true = omega (arith, l)
     go false = tt
 
-pub found_small : (ws : List ℕ) (x k : ℕ) (w : Word) → Small (found_type ws (meaning ws x k w))
+pub found_small : (ws : List ℕ) (x k : ℕ) (w : Word) → SomeSmall (found_type ws (meaning ws x k w))
 found_small ws x k w = type_low ws (meaning ws x k w) (or_low (own ws x k w) (among_used ws x w (used_in ws x k) Unknown) (seek_low ws w (decl_count ws x k) (first_decl ws x k)) (among_low ws x w (used_in ws x k) Unknown tt))
 
--- neither num nor bool
-pub type_else : (ws : List ℕ) (x k : ℕ) (w : Word) → same w k_num ≡ false → same w k_bool ≡ false → type_named ws x k w ≡ found_type ws (meaning ws x k w)
-type_else ws x k w p q = λ i. pick (p i) Num (pick (q i) Truth (found_type ws (meaning ws x k w)))
+-- files that haven't the name, and the first that has it
+named_skip : (ws : List ℕ) (x : ℕ) (w : Word) (n k j : ℕ) → j ≤ n → ((i : ℕ) → k ≤ i → i < k + j → same (file_name ws x i) w ≡ false) → named_from ws x w n k ≡ named_from ws x w (n - j) (k + j)
+named_skip ws x w n k zero l h = let a : n ≡ n - 0 = omega arith in let b : k ≡ k + 0 = omega arith in λ i. named_from ws x w (a i) (b i)
+named_skip ws x w zero k (suc j) l h = absurd (omega arith)
+named_skip ws x w (suc n) k (suc j) l h =
+    let a : n - j ≡ suc n - suc j = omega arith in
+    let b : k + 1 + j ≡ k + suc j = omega arith in
+    named_miss ws x w (suc n) n k refl (h k (omega arith) (omega arith)) ∙ named_skip ws x w n (k + 1) j (omega arith) (λ i p q. h i (omega arith) (omega arith)) ∙ (λ i. named_from ws x w (a i) (b i))
+
+abbrev pub FirstNamed : List ℕ → ℕ → Word → ℕ → Perhaps ℕ → Type 0
+FirstNamed ws x w n r = MatchOption r ((k : ℕ) → 0 ≤ k → k < n → same (file_name ws x k) w ≡ false) (λ i. (0 ≤ i) × (i < n) × (same (file_name ws x i) w ≡ true) × ((k : ℕ) → 0 ≤ k → k < i → same (file_name ws x k) w ≡ false))
+
+pub named_found : (ws : List ℕ) (x : ℕ) (w : Word) (n : ℕ) (r : Perhaps ℕ) → FirstNamed ws x w n r → r ≡ named_from ws x w n 0
+named_found ws x w n None h = let e : n - n ≡ 0 = omega arith in sym (named_skip ws x w n 0 n (omega arith) (λ k p q. h k p (omega arith)) ∙ ap (λ m. named_from ws x w m (0 + n)) e)
+named_found ws x w n (Some j) h =
+    let e : 0 + j ≡ j = omega arith in
+    sym (named_skip ws x w n 0 j (omega (arith, h.1)) (λ k p q. h.3 k p (omega arith)) ∙ named_hit ws x w (n - j) (n - (j + 1)) (0 + j) (omega (arith, h.1)) (ap (λ k. same (file_name ws x k) w) e ∙ h.2) ∙ ap (λ k. Some k) e)

@@ -11,11 +11,11 @@ use Rattle.semantics.specs.Read.{found_too}
 use Rattle.semantics.specs.Answers.{there, there_file, names_of}
 use Rattle.semantics.specs.Walk.{Query, q_here, q_there, q_file, q_before, k_sig, k_yes, has, answer}
 use Rattle.source.specs.Source.{First, FindSays}
-use Rattle.checker.specs.declared.lookup.Sort.TheVariants.{Kind, Const, Rec, Def}
+use Rattle.semantics.specs.declared.sort.Sort.TheVariants.{Kind, Constant, Record, Def}
 use Rattle.checker.specs.declared.lookup.Meaning.{Meaning}
 use Rattle.checker.specs.declared.lookup.Meaning.TheVariants.{Found, Unknown, Several}
-use Rattle.typed_lookup.specs.declared.lookup.«Type».{«Type» as Typ}
-use Rattle.typed_lookup.specs.declared.lookup.«Type».TheVariants.{None as Untyped, Num, Bool as Truth, Of}
+use Rattle.checker.specs.declared.lookup.«Type».{«Type» as Typ}
+use Rattle.checker.specs.declared.lookup.«Type».TheVariants.{Num, Bool as Truth, Of}
 use Rattle.checker.specs.Rows.{Declared, sig_by, sig_is}
 use Rattle.symbols.specs.Table.{word, file_name, used_in, first_decl, decl_count, decl_name, decl_type, decl_fields, decl_at, decl_long, decls_from}
 use Rattle.symbols.specs.Tabled.{Uses, no_more, absent, present, Owned, FileTabled, Tabled}
@@ -53,16 +53,16 @@ same_sym (x ∷ xs) [] = refl
 same_sym (x ∷ xs) (y ∷ ys) = λ i. eqb_sym x y i && same_sym xs ys i
 
 -- types and sorts by tests
-picked_type : (ws : List ℕ) (x : ℕ) (b c : Bool) (t : Typ) (o : Option Ty) → type_is ws x t ≡ o → type_is ws x (pick b Num (pick c Truth t)) ≡ pick b (some t_num) (pick c (some t_bool) o)
+picked_type : (ws : List ℕ) (x : ℕ) (b c : Bool) (t : Perhaps Typ) (o : Option Ty) → type_is ws x t ≡ o → type_is ws x (pick b (Some Num) (pick c (Some Truth) t)) ≡ pick b (some t_num) (pick c (some t_bool) o)
 picked_type ws x true c t o e = refl
 picked_type ws x false true t o e = refl
 picked_type ws x false false t o e = e
 
-declared_type : (ws : List ℕ) (x d : ℕ) (b : Bool) → type_is ws x (pick b (Of (record { 0 = d })) Untyped) ≡ pick b (type_is ws x (Of (record { 0 = d }))) none
+declared_type : (ws : List ℕ) (x d : ℕ) (b : Bool) → type_is ws x (pick b (Some (Of (record { 0 = d }))) None) ≡ pick b (type_is ws x (Some (Of (record { 0 = d })))) none
 declared_type ws x d true = refl
 declared_type ws x d false = refl
 
-sort_picked : (a b c : Bool) (d : Declared) → sig_by (pick a Kind (pick b Const (pick c Rec Def))) d ≡ pick a (s_type d.file d.name) (pick b (s_const d.file d.name d.result) (pick c (s_rec d.file d.name d.slots) (s_def d.file d.name d.slots d.result)))
+sort_picked : (a b c : Bool) (d : Declared) → sig_by (pick a Kind (pick b Constant (pick c Record Def))) d ≡ pick a (s_type d.file d.name) (pick b (s_const d.file d.name d.result) (pick c (s_rec d.file d.name d.slots) (s_def d.file d.name d.slots d.result)))
 sort_picked true b c d = refl
 sort_picked false true c d = refl
 sort_picked false false true d = refl

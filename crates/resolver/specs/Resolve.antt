@@ -9,12 +9,12 @@ use Rattle.grammar.specs.Grammar.{Field}
 use Rattle.semantics.specs.Names.{Ty, t_num, t_bool, Slot, Sig, s_unknown, s_several}
 use Rattle.semantics.specs.Check.{field_of}
 use Rattle.semantics.specs.Walk.{Query, q_here, q_there, q_file, q_before, k_sig, k_yes, Fetch, has}
-use Rattle.checker.specs.declared.lookup.Sort.{Sort}
-use Rattle.checker.specs.declared.lookup.Sort.TheVariants.{Kind, Const, Rec, Def}
+use Rattle.semantics.specs.declared.sort.Sort.{Sort}
+use Rattle.semantics.specs.declared.sort.Sort.TheVariants.{Kind, Constant, Record, Def}
 use Rattle.checker.specs.declared.lookup.Meaning.{Meaning}
 use Rattle.checker.specs.declared.lookup.Meaning.TheVariants.{Found, Unknown, Several}
-use Rattle.typed_lookup.specs.declared.lookup.«Type».{«Type» as Typ}
-use Rattle.typed_lookup.specs.declared.lookup.«Type».TheVariants.{None as Untyped, Num, Bool as Truth, Of}
+use Rattle.checker.specs.declared.lookup.«Type».{«Type» as Typ}
+use Rattle.checker.specs.declared.lookup.«Type».TheVariants.{Num, Bool as Truth, Of}
 use Rattle.checker.specs.Rows.{Origin, Declared, Book, ty_of, sig_is, slot_type}
 use Rattle.symbols.specs.Table.{word, text_at, file_name, used_in, first_decl, decl_count, decl_name, decl_type, decl_fields, decl_long}
 
@@ -86,32 +86,32 @@ meaning ws x k w = found_or (own ws x k w) (among_used ws x w (used_in ws x k) U
 abbrev pub is_type : ℕ → Bool
 is_type s = s == 0 || s == 2
 
-abbrev pub found_type : List ℕ → Meaning → Typ
-found_type ws Unknown = Untyped
-found_type ws Several = Untyped
-found_type ws (Found s) = pick (is_type (word ws (s.0 + 3))) (Of (record { 0 = s.0 })) Untyped
+abbrev pub found_type : List ℕ → Meaning → Perhaps Typ
+found_type ws Unknown = None
+found_type ws Several = None
+found_type ws (Found s) = pick (is_type (word ws (s.0 + 3))) (Some (Of (record { 0 = s.0 }))) None
 
-abbrev pub type_named : List ℕ → ℕ → ℕ → Word → Typ
-type_named ws x k w = pick (same w k_num) Num (pick (same w k_bool) Truth (found_type ws (meaning ws x k w)))
+abbrev pub type_named : List ℕ → ℕ → ℕ → Word → Perhaps Typ
+type_named ws x k w = pick (same w k_num) (Some Num) (pick (same w k_bool) (Some Truth) (found_type ws (meaning ws x k w)))
 
 -- where a handle's thing is declared, and the type that one stands for
 abbrev pub origin : List ℕ → ℕ → ℕ → Origin
 origin ws x d = record { file = file_name ws x (word ws d); name = decl_name ws d }
 
-abbrev pub type_is : List ℕ → ℕ → Typ → Option Ty
-type_is ws x Untyped = none
-type_is ws x Num = some t_num
-type_is ws x Truth = some t_bool
-type_is ws x (Of t) = some (ty_of (origin ws x t.0))
+abbrev pub type_is : List ℕ → ℕ → Perhaps Typ → Option Ty
+type_is ws x None = none
+type_is ws x (Some Num) = some t_num
+type_is ws x (Some Truth) = some t_bool
+type_is ws x (Some (Of t)) = some (ty_of (origin ws x t.0))
 
 -- the type of the first slot of a name
-abbrev pub FieldIs : List ℕ → ℕ → List Slot → Word → Perhaps Typ → Type 0
+abbrev pub FieldIs : List ℕ → ℕ → List Slot → Word → Perhaps (Perhaps Typ) → Type 0
 FieldIs ws x ss w None = field_of ss w ≡ none
 FieldIs ws x ss w (Some t) = slot_type (field_of ss w) ≡ some (type_is ws x t)
 
 -- what is declared there, its types by the names that they have in its own file. What lies past the limit is no type.
 abbrev pub sort_by : ℕ → Sort
-sort_by s = pick (s == 0) Kind (pick (s == 1) Const (pick (s == 2) Rec Def))
+sort_by s = pick (s == 0) Kind (pick (s == 1) Constant (pick (s == 2) Record Def))
 
 abbrev pub sort_at : List ℕ → ℕ → Sort
 sort_at ws d = pick (nat_lt d limit) (sort_by (word ws (d + 3))) Def

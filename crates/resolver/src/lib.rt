@@ -4,7 +4,7 @@
 
 mod handles;
 pub mod names;
-mod parts;
 pub mod plain;
 pub mod search;
+pub mod table;
 pub mod theorems;

@@ -1,27 +1,22 @@
 // What names mean in a file.
 ghost use Rattle.std.specs.Prelude.{◌≡◌};
-ghost use Rattle.typed_lookup.specs.Types.{Small};
-ghost use Rattle.resolver.specs.Resolve.{also, found_or, among_used, meaning, found_type, type_named};
+ghost use Rattle.checker.specs.Types.{SomeSmall};
+ghost use Rattle.resolver.specs.Resolve.{also, found_or};
 ghost use Rattle.checker.specs.declared.lookup.Meaning.TheVariants.{Unknown};
-ghost use Rattle.symbols.specs.Table.{used_in};
 
-use crate::parts::used_in;
-use crate::search::own;
-use base::same_word;
-use checker::lookup::{Meaning, SigId, TypeId};
-use symbols::read::word_at;
-use typed_lookup::lookup::Type;
+use crate::table::Table;
+use base::spells;
+use checker::lookup::{Meaning, SigId, Type, TypeId};
+use semantics::sort::Sort;
 
 // What was found among used files so far, and in one more of them.
 fn also(found: Option<u32>, before: Meaning) -> Meaning
     ensures { result ≡ also found before }
 {
-    match found {
-        None => before,
-        Some(d) => match before {
-            Meaning::Unknown => Meaning::Found(SigId(d)),
-            _ => Meaning::Several,
-        },
+    match (found, before) {
+        (None, before) => before,
+        (Some(d), Meaning::Unknown) => Meaning::Found(SigId(d)),
+        (Some(_), _) => Meaning::Several,
     }
 }
 
@@ -29,55 +24,56 @@ fn also(found: Option<u32>, before: Meaning) -> Meaning
 pub fn found_or(found: Option<u32>, other: Meaning) -> Meaning
     ensures { result ≡ found_or found other }
 {
-    match found {
-        None => other,
-        Some(d) => Meaning::Found(SigId(d)),
-    }
+    found.map_or(other, |d| Meaning::Found(SigId(d)))
 }
 
-// What the files declare under a name that a file uses.
-fn among_used(words: &[u32], x: usize, k: usize, name: &[u32]) -> Meaning
-    ensures { result ≡ among_used words.now x name.now (used_in words.now x k) Unknown }
-{
-    let mut m = Meaning::Unknown;
-    for g in used_in(words, x, k) {
-        m = also(own(words, x, *g as usize, name), m);
-    }
-    m
-}
+impl<'a> Table<'a> {
+    ghost use Rattle.symbols.specs.Table.{used_in};
+    ghost use Rattle.resolver.specs.Resolve.{among_used, meaning, found_type, type_named};
 
-// What a name means in a file: what that declares, else what the files declare that it uses.
-pub fn meaning(words: &[u32], x: usize, k: usize, name: &[u32]) -> Meaning
-    ensures { result ≡ meaning words.now x k name.now }
-{
-    match own(words, x, k, name) {
-        Some(d) => Meaning::Found(SigId(d)),
-        None => among_used(words, x, k, name),
+    // What the files declare under a name that a file uses.
+    fn among_used(self, k: usize, name: &[u32]) -> Meaning
+        ensures { result ≡ among_used self.entry.words.now self.entry.index name.now (used_in self.entry.words.now self.entry.index k) Unknown }
+    {
+        let mut m = Meaning::Unknown;
+        for g in self.used_in(k) {
+            m = also(self.own(*g as usize, name), m);
+        }
+        m
     }
-}
 
-// The type that is declared there: a kind and a record are types.
-fn found_type(words: &[u32], m: Meaning) -> Type
-    ensures { result ≡ found_type words.now m }
-{
-    let Meaning::Found(s) = m else {
-        return Type::None;
-    };
-    match word_at(words, s.0 as usize + 3) {
-        0 => Type::Of(TypeId(s.0)),
-        2 => Type::Of(TypeId(s.0)),
-        _ => Type::None,
+    // What a name means in a file: what that declares, else what the files declare that it uses.
+    pub fn meaning(self, k: usize, name: &[u32]) -> Meaning
+        ensures { result ≡ meaning self.entry.words.now self.entry.index k name.now }
+    {
+        match self.own(k, name) {
+            Some(d) => Meaning::Found(SigId(d)),
+            None => self.among_used(k, name),
+        }
     }
-}
 
-// The type that a word names in a file.
-pub fn type_named(words: &[u32], x: usize, k: usize, name: &[u32]) -> Type
-    ensures small { Small result }
-    ensures is { result ≡ type_named words.now x k name.now }
-{
-    match name {
-        w if same_word(w, &[110, 117, 109]) => Type::Num,
-        w if same_word(w, &[98, 111, 111, 108]) => Type::Bool,
-        w => found_type(words, meaning(words, x, k, w)),
+    // The type that is declared there: a kind and a record are types.
+    fn found_type(self, m: Meaning) -> Option<Type>
+        ensures { result ≡ found_type self.entry.words.now m }
+    {
+        let Meaning::Found(s) = m else {
+            return None;
+        };
+        match self.decl(s.0).sort()? {
+            Sort::Kind | Sort::Record => Some(Type::Of(TypeId(s.0))),
+            Sort::Constant | Sort::Def => None,
+        }
+    }
+
+    // The type that a word names in a file.
+    pub fn type_named(self, k: usize, name: &[u32]) -> Option<Type>
+        ensures small { SomeSmall result }
+        ensures is { result ≡ type_named self.entry.words.now self.entry.index k name.now }
+    {
+        match name {
+            w if spells(w, b"num") => Some(Type::Num),
+            w if spells(w, b"bool") => Some(Type::Bool),
+            w => self.found_type(self.meaning(k, w)),
+        }
     }
 }

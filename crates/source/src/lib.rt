@@ -12,7 +12,8 @@ pub struct Extent {
     pub len: usize,
 }
 
-// Texts in words: 'holds' are the texts that words stand for, 'fits' says that words are in order.
+// Texts in words: 'holds' are the texts that words stand for, 'fits' says that words are in order. Words are passed to each call, for a
+// source keeps none: they are lent, and between calls others may write to them.
 pub trait Source {
     ghost holds: { Self → List ℕ → Texts };
 

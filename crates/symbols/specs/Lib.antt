@@ -1,3 +1,4 @@
--- The symbol table in words (Table), and when it is that of texts (Tabled).
+-- The symbol table in words (Table), when it is that of texts (Tabled), and the row in which both lie (Rows).
 pub mod Table
 pub mod Tabled
+pub mod Rows

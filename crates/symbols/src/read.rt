@@ -2,6 +2,13 @@
 ghost use Rattle.std.specs.Prelude.{◌≡◌, ◌+◌};
 ghost use Rattle.symbols.specs.Table.{word, text_at, part_at};
 
+// How many words the table has of a file; of a declaration; and of each of its fields or parameters besides.
+pub const ROW: usize = 6;
+
+pub const HEAD: usize = 9;
+
+pub const SLOT: usize = 4;
+
 // The word at a place, 0 past the end.
 pub fn word_at(words: &[u32], i: usize) -> u32
     ensures { result ≡ word words.now i }

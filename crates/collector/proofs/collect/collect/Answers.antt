@@ -3,7 +3,8 @@ use Rattle.std.proofs.Common.{◌≡◌, ◌+◌, ◌-◌, ◌*◌, ◌<◌, ◌
 use Rattle.std.specs.List.{slice_get}
 use Rattle.std.proofs.lemmas.Result.{err_from_is_err_and}
 use Rattle.semantics.specs.Names.{File}
-use Rattle.collector.specs.Rows.{Held, texts_in}
+use Rattle.symbols.specs.Rows.{texts_in}
+use Rattle.collector.specs.Rows.{Held}
 use Rattle.collector.specs.Collected.{FileSays, TooFew, Collected, CollectSays}
 use Rattle.collector.proofs.Heads.{nth_some}
 use Rattle.collector.proofs.Writes.{kept_wrote, texts_kept, order_kept}
@@ -26,7 +27,7 @@ loop-k-init g c =
     let s = c.args.source.now in
     let ws = c.args.words.now in
     let l = c.args.l in
-    let o = c.requires.order in
+    let o = c.requires.lent.order in
     let w1 = c.put.new.words in
     let e1 : texts_in l w1 ≡ texts_in l ws = texts_kept l l.index (l.index + 1) ws w1 o.slot (omega arith) (kept_wrote l l.index (l.index + 1) ws w1 c.put.ensures.wrote) in
     let p = g.S.Source.holds s (texts_in l w1) in
@@ -41,7 +42,7 @@ put_file-requires g c =
     let s = c.args.source.now in
     let ws = c.args.words.now in
     let l = c.args.l in
-    let o = c.requires.order in
+    let o = c.requires.lent.order in
     let w1 = c.put.new.words in
     let e1 : texts_in l w1 ≡ texts_in l ws = texts_kept l l.index (l.index + 1) ws w1 o.slot (omega arith) (kept_wrote l l.index (l.index + 1) ws w1 c.put.ensures.wrote) in
     let p = g.S.Source.holds s (texts_in l w1) in
@@ -53,8 +54,7 @@ put_file-requires g c =
     let e2 = tabling_texts p l w1 o1 k c.loop-k.at vs t in
     let x = nth_some p k (omega (arith, n, c.loop-k-test.true)) in
     record {
-      order = tabling_order p l w1 o1 k c.loop-k.at vs t;
-      fits = subst (g.S.Source.fits s) (sym (e2 ∙ e1)) c.requires.fits;
+      lent = record { order = tabling_order p l w1 o1 k c.loop-k.at vs t; fits = subst (g.S.Source.fits s) (sym (e2 ∙ e1)) c.requires.lent.fits };
       there = subst (λ m. (x : File) × (slice_get (g.S.Source.holds s m) k ≡ Some x)) (sym e2) (x.0, x.1);
       place = (omega (arith, t.ends, ap (λ m. length (g.S.Source.holds s m)) e2), t.within);
     }
@@ -64,7 +64,7 @@ returns-in_err-at g c =
     let s = c.args.source.now in
     let ws = c.args.words.now in
     let l = c.args.l in
-    let o = c.requires.order in
+    let o = c.requires.lent.order in
     let w1 = c.put.new.words in
     let e1 : texts_in l w1 ≡ texts_in l ws = texts_kept l l.index (l.index + 1) ws w1 o.slot (omega arith) (kept_wrote l l.index (l.index + 1) ws w1 c.put.ensures.wrote) in
     let p = g.S.Source.holds s (texts_in l w1) in
@@ -89,7 +89,7 @@ loop-k-preserved g c =
     let s = c.args.source.now in
     let ws = c.args.words.now in
     let l = c.args.l in
-    let o = c.requires.order in
+    let o = c.requires.lent.order in
     let w1 = c.put.new.words in
     let e1 : texts_in l w1 ≡ texts_in l ws = texts_kept l l.index (l.index + 1) ws w1 o.slot (omega arith) (kept_wrote l l.index (l.index + 1) ws w1 c.put.ensures.wrote) in
     let p = g.S.Source.holds s (texts_in l w1) in
@@ -108,7 +108,7 @@ returns g c =
     let s = c.args.source.now in
     let ws = c.args.words.now in
     let l = c.args.l in
-    let o = c.requires.order in
+    let o = c.requires.lent.order in
     let w1 = c.put.new.words in
     let e1 : texts_in l w1 ≡ texts_in l ws = texts_kept l l.index (l.index + 1) ws w1 o.slot (omega arith) (kept_wrote l l.index (l.index + 1) ws w1 c.put.ensures.wrote) in
     let p = g.S.Source.holds s (texts_in l w1) in

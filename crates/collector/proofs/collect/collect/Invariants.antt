@@ -1,4 +1,4 @@
-use Rattle.collector.specs.Rows.{texts_in}
+use Rattle.symbols.specs.Rows.{texts_in}
 use Rattle.collector.proofs.Tables.{Tabling}
 use Rattle.collector.proofs.collect.collect.Given as goal
 

@@ -1,12 +1,9 @@
 -- Fields and parameters, one after the other.
 use Rattle.std.proofs.Common.{◌≡◌, ◌+◌, ◌*◌, length, subst, arith, rules}
 use Rattle.collector.specs.Rows.{Wrote}
-use Rattle.collector.proofs.Writes.{wrote_none, wrote_wider, wrote_on}
-use Rattle.collector.proofs.Fields.{fields_none, fields_more, fields_all}
+use Rattle.collector.proofs.Writes.{wrote_wider, wrote_on}
+use Rattle.collector.proofs.Fields.{fields_more, fields_all}
 use Rattle.collector.proofs.entry.put_fields.Goals as goal
-
-pub loop-i-init : goal.loop-i-init
-loop-i-init c = (wrote_wider c.args.at c.args.at c.args.at (c.args.at + 4 * 0) c.args.words.now c.args.words.now (omega arith) (omega arith) (wrote_none c.args.at c.args.words.now), λ line fs p. fields_none c.args.words.now c.args.at fs (omega arith))
 
 pub loop-i-preserved : goal.loop-i-preserved
 loop-i-preserved c =
