@@ -18,7 +18,8 @@ fn sign(o: Operator) -> &'static str {
     }
 }
 
-// A piece's bytes and its place.
+// A piece's bytes and its place. A piece may have any bytes, and Display writes only text, so what has pieces is shown by functions; and
+// the types that are shown here belong to the crates below.
 fn show_piece<W: Write>(p: Piece<'_>, out: &mut W) -> io::Result<()> {
     for c in p.text {
         out.write_all(&[(*c % 256) as u8])?;
@@ -27,10 +28,10 @@ fn show_piece<W: Write>(p: Piece<'_>, out: &mut W) -> io::Result<()> {
     write!(out, " {from}-{to}")
 }
 
-// A word, and a piece of the line.
-fn show_part<W: Write>(word: &str, line: &[u32], span: Span, out: &mut W) -> io::Result<()> {
-    out.write_all(word.as_bytes())?;
-    show_piece(piece(line, span), out)
+// A word and a piece.
+fn show_named<W: Write>(word: &str, name: Piece<'_>, out: &mut W) -> io::Result<()> {
+    write!(out, "{word}")?;
+    show_piece(name, out)
 }
 
 // A place that isn't understood.
@@ -41,35 +42,35 @@ pub fn show_bad<W: Write>(place: Span, out: &mut W) -> io::Result<()> {
 
 fn show_op<W: Write>(line: &[u32], op: Op, out: &mut W) -> io::Result<()> {
     match op {
-        Op::Number(s) => show_part("num ", line, s, out),
-        Op::Name(s) => show_part("name ", line, s, out),
+        Op::Number(s) => show_named("num ", piece(line, s), out),
+        Op::Name(s) => show_named("name ", piece(line, s), out),
         Op::Call(s, k) => {
-            show_part("call ", line, s, out)?;
+            show_named("call ", piece(line, s), out)?;
             write!(out, " {k}")
         }
         Op::Arg => write!(out, "arg"),
         Op::End(a) => write!(out, "end {a}"),
-        Op::Field(s) => show_part("field ", line, s, out),
+        Op::Field(s) => show_named("field ", piece(line, s), out),
         Op::Sign(o) => {
             let sign = sign(o);
             write!(out, "op {sign}")
         }
         Op::Cond => write!(out, "cond"),
         Op::If(a) => write!(out, "if {a}"),
-        Op::Bind(s) => show_part("bind ", line, s, out),
+        Op::Bind(s) => show_named("bind ", piece(line, s), out),
         Op::Let(a) => write!(out, "let {a}"),
         Op::Par(s) => {
             let (from, to) = (s.from, s.to);
             write!(out, "par {from} {to}")
         }
-        Op::Use(s) => show_part("use ", line, s, out),
-        Op::New(s) => show_part("new ", line, s, out),
-        Op::Const(s) => show_part("", line, s, out),
+        Op::Use(s) => show_named("use ", piece(line, s), out),
+        Op::New(s) => show_named("new ", piece(line, s), out),
+        Op::Const(s) => show_named("", piece(line, s), out),
         Op::Slot(x, t) => {
-            show_part("", line, x, out)?;
-            show_part(" ", line, t, out)
+            show_named("", piece(line, x), out)?;
+            show_named(" ", piece(line, t), out)
         }
-        Op::Result(s) => show_part("result ", line, s, out),
+        Op::Result(s) => show_named("result ", piece(line, s), out),
         Op::Body => write!(out, "body"),
         Op::Bad(s) => show_bad(s, out),
     }
@@ -77,22 +78,13 @@ fn show_op<W: Write>(line: &[u32], op: Op, out: &mut W) -> io::Result<()> {
 
 // Each operation behind a stroke; the end of a body isn't shown.
 fn show_ops<W: Write>(ops: Ops<'_>, out: &mut W) -> io::Result<()> {
-    for i in 0..ops.len() {
-        match ops.get(i) {
-            None | Some(Op::Body) => {}
-            Some(op) => {
-                out.write_all(b" | ")?;
-                show_op(ops.line, op, out)?;
-            }
+    for op in (0..ops.len()).filter_map(|i| ops.get(i)) {
+        if !matches!(op, Op::Body) {
+            write!(out, " | ")?;
+            show_op(ops.line, op, out)?;
         }
     }
     Ok(())
-}
-
-// A word and a piece.
-fn show_named<W: Write>(word: &str, name: Piece<'_>, out: &mut W) -> io::Result<()> {
-    out.write_all(word.as_bytes())?;
-    show_piece(name, out)
 }
 
 pub fn show_item<W: Write>(item: Item<'_>, out: &mut W) -> io::Result<()> {

@@ -1,9 +1,8 @@
 -- From what one call says to a run of calls.
-use Rattle.std.proofs.Common.{◌≡◌, ℕ, zero, suc, ◌+◌, ◌<◌, ◌≤◌, min, Bool, true, false, ◌&&◌, leb, ◌⊎◌, List, [], ◌∷◌, ◌++◌, length, get_or, take, sym, refl, ap, ◌∙◌, subst, inl, inr, append_assoc, append-nil, arith, le-leb}
+use Rattle.std.proofs.Common.{◌≡◌, ℕ, ◌+◌, ◌<◌, ◌≤◌, Bool, true, false, ◌&&◌, leb, ◌⊎◌, List, [], ◌∷◌, ◌++◌, length, get_or, take, sym, refl, ap, ◌∙◌, subst, inl, inr, append_assoc, append-nil, le-leb}
 use mathlib.Core.Option.{Option, some}
-use native.Mathlib.Nat.{zero-min, suc-min-suc}
 use borrow.Author.Tests.{lt-leb}
-use Rattle.std.proofs.lemmas.List.{take_more}
+use Rattle.std.proofs.lemmas.List.{map-append, take_all, take_more}
 use Rattle.base.specs.Base.{pick, opt}
 use Rattle.semantics.specs.Names.{File, Texts, find_file}
 use Rattle.semantics.specs.Answers.{puts_file, edits}
@@ -89,16 +88,12 @@ one_more w n p q q' cs rs os c r a ends k = subst (λ l. Runs w n p (c ∷ []) (
 one_more w n p q q' cs rs os c r a (next {p' = p'} {c = d} {cs = ds} {r = s} {rs = ss} {a = b} {os = bs} h t) k =
     subst (λ l. Runs w n p (d ∷ (ds ++ (c ∷ []))) (s ∷ (ss ++ (r ∷ []))) l q') (sym (append_assoc b bs a)) (next h (one_more w n p' q q' ds ss bs c r a t k))
 
-calls_append : (xs ys : List Request) → calls_of (xs ++ ys) ≡ calls_of xs ++ calls_of ys
-calls_append [] ys = refl
-calls_append (x ∷ xs) ys = ap (λ l. call_of x ∷ l) (calls_append xs ys)
-
 -- a turn of the loop: the next request is answered, and the reply and its words are put behind the others
 pub turn : (w v n i : ℕ) (p q q' : Texts) (xs : List Request) (d : Request) (rs rs' : List Reply) (os os' o o' : List ℕ) (r : Reply) → Runs w n p (calls_of (take i xs)) rs os q → i < length xs → length o ≡ n → v ≡ w → ReplySays (call_of (get_or xs i d)) q v o o' q' r → rs' ≡ rs ++ (r ∷ []) → os' ≡ os ++ take (output_len r) o' → Runs w n p (calls_of (take (i + 1) xs)) rs' os' q'
 turn w v n i p q q' xs d rs rs' os os' o o' r h lt l e s f g =
     let c = call_of (get_or xs i d) in
     let cs = calls_of (take i xs) in
-    let calls : calls_of (take (i + 1) xs) ≡ cs ++ (c ∷ []) = ap calls_of (take_more xs i d lt) ∙ calls_append (take i xs) (get_or xs i d ∷ []) in
+    let calls : calls_of (take (i + 1) xs) ≡ cs ++ (c ∷ []) = ap calls_of (take_more xs i d lt) ∙ map-append call_of (take i xs) (get_or xs i d ∷ []) in
     let k : Replied w n c q q' r (take (output_len r) o') = subst (λ z. Replied w z c q q' r (take (output_len r) o')) l (replied w c q q' o o' r (subst (λ z. ReplySays c q z o o' q' r) e s)) in
     subst (λ z. Runs w n p z rs' os' q') (sym calls) (subst (λ z. Runs w n p (cs ++ (c ∷ [])) z os' q') (sym f) (subst (λ z. Runs w n p (cs ++ (c ∷ [])) (rs ++ (r ∷ [])) z q') (sym g) (one_more w n p q q' cs rs os c r (take (output_len r) o') h k)))
 
@@ -106,22 +101,6 @@ turn w v n i p q q' xs d rs rs' os os' o o' r h lt l e s f g =
 pub started : (w n : ℕ) (p : Texts) (rs : List Reply) (os : List ℕ) → rs ≡ [] → os ≡ [] → Runs w n p [] rs os p
 started w n p rs os e f = subst (λ z. Runs w n p [] z os p) (sym e) (subst (λ z. Runs w n p [] [] z p) (sym f) ends)
 
-take_all : (xs : List Request) (n : ℕ) → length xs ≤ n → take n xs ≡ xs
-take_all [] zero h = refl
-take_all [] (suc n) h = refl
-take_all (x ∷ xs) zero h = absurd (omega arith)
-take_all (x ∷ xs) (suc n) h = ap (λ l. x ∷ l) (take_all xs n (omega arith))
-
 -- behind the last one
 pub whole : (w n : ℕ) (p q : Texts) (xs : List Request) (rs : List Reply) (os : List ℕ) (i : ℕ) → length xs ≤ i → Runs w n p (calls_of (take i xs)) rs os q → Runs w n p (calls_of xs) rs os q
-whole w n p q xs rs os i h k = subst (λ l. Runs w n p (calls_of l) rs os q) (take_all xs i h) k
-
--- the first n, as far as there are so many
-pub take_min : (n : ℕ) (xs : List ℕ) → take (min n (length xs)) xs ≡ take n xs
-take_min n [] = nothing (min n 0) ∙ sym (nothing n)
-  where
-    nothing : (m : ℕ) → take {A = ℕ} m [] ≡ []
-    nothing zero = refl
-    nothing (suc m) = refl
-take_min zero (x ∷ xs) = ap (λ k. take k (x ∷ xs)) (zero-min (suc (length xs)))
-take_min (suc n) (x ∷ xs) = ap (λ k. take k (x ∷ xs)) (suc-min-suc n (length xs)) ∙ ap (λ l. x ∷ l) (take_min n xs)
+whole w n p q xs rs os i h k = subst (λ l. Runs w n p (calls_of l) rs os q) (take_all i xs h) k

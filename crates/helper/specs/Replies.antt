@@ -1,5 +1,5 @@
 -- What is replied to a request, by the definitions.
-use Rattle.std.specs.Prelude.{◌≡◌, ℕ, Bool, ◌&&◌, List, [], ◌∷◌, length, nat_le}
+use Rattle.std.specs.Prelude.{◌≡◌, ℕ, Bool, ◌&&◌, List, [], length, map, nat_le}
 use Rattle.std.proofs.Math.Option.{Option, some, none}
 use Rattle.base.specs.Base.{Word, pick, opt, is_some}
 use Rattle.semantics.specs.Names.{File, Texts, find_file}
@@ -100,5 +100,4 @@ output_len (Answered Missing) = 0
 output_len (Answered (OutFull n)) = 0
 
 abbrev pub calls_of : List Request → List Call
-calls_of [] = []
-calls_of (r ∷ rs) = call_of r ∷ calls_of rs
+calls_of rs = map call_of rs

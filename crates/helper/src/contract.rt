@@ -5,8 +5,8 @@ ghost use Rattle.semantics.specs.Answers.{faults, type_of, where_is};
 ghost use Rattle.helper.specs.Says.{OpenSays, EditSays, CloseSays, AskSays};
 
 // What came of a change: it is made; or there is no such file, no such place in it, or too few words are lent for the texts as they
-// would be, and then they are as before.
-#[derive(Clone, Copy)]
+// would be, and then they are as before. The name and its cases are given, and so are those of Answer, hence neither is a Result.
+#[derive(Clone, Copy, PartialEq, Eq, Debug)]
 pub enum Changed {
     Made,
     NoFile,
@@ -15,7 +15,7 @@ pub enum Changed {
 }
 
 // How many words of answer; or why there is none, OutFull with how many there would be.
-#[derive(Clone, Copy)]
+#[derive(Clone, Copy, PartialEq, Eq, Debug)]
 pub enum Answer {
     Words(usize),
     Missing,

@@ -5,7 +5,7 @@ ghost use Rattle.helper.specs.Replies.{call_of, ReplySays};
 use crate::contract::{Answer, Changed, Helper};
 
 // A change or a question. Names and texts are any bytes.
-#[derive(Clone, Copy)]
+#[derive(Clone, Copy, PartialEq, Eq, Debug)]
 pub enum Request<'a> {
     Open {
         name: &'a [u8],
@@ -34,7 +34,7 @@ pub enum Request<'a> {
 }
 
 // What is replied: what came of a change, whether a file was closed, or how many words of answer there are.
-#[derive(Clone, Copy)]
+#[derive(Clone, Copy, PartialEq, Eq, Debug)]
 pub enum Reply {
     Changed(Changed),
     Closed(bool),

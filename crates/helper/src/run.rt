@@ -53,27 +53,6 @@ impl Transcript {
         self.replies.push(reply)?;
         Ok(())
     }
-
-    // Each request in turn, where nothing was asked before.
-    fn run<H: Helper>(
-        &mut self,
-        helper: &mut H,
-        requests: &[Request],
-        out: &mut [u64],
-    ) -> Result<(), AllocError>
-        requires fits { H.fit helper.old }
-        requires replies { self.old.replies.items ≡ [] }
-        requires words { self.old.words.items ≡ [] }
-        ensures fits { H.fit helper.new }
-        ensures runs { OnOk result (Runs (H.words helper.old) (length out.old) (H.texts helper.old) (calls_of requests.now) self.new.replies.items self.new.words.items (H.texts helper.new)) }
-        ensures lent { H.words helper.new ≡ H.words helper.old }
-    {
-        for request in requests {
-            let reply = answer(helper, request, out);
-            self.note(reply, out)?;
-        }
-        Ok(())
-    }
 }
 
 // Each request in turn: each reply is that of the definition for the texts as they are then, or a refusal for want of room.
@@ -89,6 +68,9 @@ pub fn answer_all<H: Helper>(
     ensures lent { H.words helper.new ≡ H.words helper.old }
 {
     let mut transcript = Transcript::new(heap);
-    transcript.run(helper, requests, out)?;
+    for request in requests {
+        let reply = answer(helper, request, out);
+        transcript.note(reply, out)?;
+    }
     Ok(transcript)
 }

@@ -1,1 +1,1 @@
-mod Widen
+mod Laid

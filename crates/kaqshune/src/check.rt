@@ -3,21 +3,60 @@ ghost use Rattle.std.specs.Prelude.{◌≡◌, ℕ, ◌≤◌, IfOk};
 ghost use Rattle.kaqshune.specs.Checked.{Checked};
 
 use anyhow::anyhow;
-use lexer::lines::line_end;
 use parser::code::Span;
 use report::{show_line, show_mark};
 use std::alloc::{AllocError, Global};
-use std::fs;
 use std::io::Write;
+use std::{fmt, fs};
 use syntax::read::{Refusal, read_line, room};
+
+// The byte that ends a line.
+const NEWLINE: u32 = 10;
+
+// So many things of a kind, as they are printed.
+#[derive(Clone, Copy)]
+struct Counted(u64, &'static str);
+
+impl fmt::Display for Counted {
+    fn fmt<W: fmt::Write>(&self, f: &mut fmt::Formatter<W>) -> fmt::Result {
+        let Counted(n, thing) = *self;
+        let ending = if n == 1 { "" } else { "s" };
+        write!(f, "{n} {thing}{ending}")
+    }
+}
+
+// A line that isn't understood, by its file and number, and where it goes wrong.
+#[derive(Clone, Copy)]
+struct Fault<'a> {
+    path: &'a str,
+    number: u64,
+    line: &'a [u32],
+    place: Span,
+}
+
+impl Fault<'_> {
+    // The place and the fault, the line, and a mark under the place.
+    fn print<W: Write>(&self, heap: Global, out: &mut W) -> anyhow::Result<()> {
+        let (path, number) = (self.path, self.number);
+        let column = u64::from(self.place.from) + 1;
+        writeln!(out, "{path}:{number}:{column}: fault 1: not understood")?;
+        let mut shown = Vec::new(heap);
+        show_line(&mut shown, self.line)?;
+        shown.push(b'\n')?;
+        show_mark(&mut shown, self.place.from as usize, self.place.to as usize)?;
+        shown.push(b'\n')?;
+        out.write_all(&shown[..])?;
+        Ok(())
+    }
+}
 
 // What was seen so far, and the row of words in which lines are read.
 #[derive(Drop)]
 pub struct Totals {
     files: u64,
     lines: u64,
-    pub faults: u64,
-    pub readable: bool,
+    faults: u64,
+    readable: bool,
     row: Vec<u32>,
 }
 
@@ -60,45 +99,44 @@ impl Totals {
         text: &[u32],
         out: &mut W,
     ) -> anyhow::Result<()> {
-        let mut from = 0;
-        for number in 1..u64::MAX {
-            if from >= text.len() {
-                break;
-            }
-            let end = line_end(text, from);
+        let lines = text.split_inclusive(|c| *c == NEWLINE);
+        for (number, line) in (1..u64::MAX).zip(lines) {
+            let line = line.strip_suffix(&[NEWLINE]).unwrap_or(line);
             self.lines = self.lines.saturating_add(1);
-            if let Some(place) = wrong_place(&mut self.row, &text[from..end])? {
+            if let Some(place) = wrong_place(&mut self.row, line)? {
                 self.faults = self.faults.saturating_add(1);
-                print_fault(heap, path, number, &text[from..end], place, out)?;
+                let fault = Fault {
+                    path,
+                    number,
+                    line,
+                    place,
+                };
+                fault.print(heap, out)?;
             }
-            from = end.saturating_add(1);
         }
         Ok(())
     }
 
     // How many files, lines and faults there were.
-    pub fn print<W: Write>(&self, rt: &HostRuntime, out: &mut W) -> anyhow::Result<()> {
-        let (files, lines, faults) = (self.files, self.lines, self.faults);
-        let (f, l, w) = (plural(files), plural(lines), plural(faults));
-        let said = format!(in rt.alloc(); "{files} file{f}, {lines} line{l}, {faults} fault{w}\n")?;
-        out.write_all(said.as_bytes())?;
+    pub fn print<W: Write>(&self, out: &mut W) -> anyhow::Result<()> {
+        let files = Counted(self.files, "file");
+        let lines = Counted(self.lines, "line");
+        let faults = Counted(self.faults, "fault");
+        writeln!(out, "{files}, {lines}, {faults}")?;
         Ok(())
     }
-}
 
-fn plural(n: u64) -> &'static str {
-    if n == 1 { "" } else { "s" }
+    // Whether each file could be read, and no fault was found in any, where faults count.
+    pub fn is_fine(&self, faults_count: bool) -> bool {
+        self.readable && !(faults_count && self.faults > 0)
+    }
 }
 
 // Each byte as a word.
 fn widened(heap: Global, bytes: &[u8]) -> Result<Vec<u32>, AllocError>
     ensures { IfOk result (λ v. v.items ≡ bytes.now) }
 {
-    let mut words = Vec::with_capacity(heap, bytes.len())?;
-    for b in bytes {
-        words.push(u32::from(*b))?;
-    }
-    Ok(words)
+    bytes.iter().map(|b| u32::from(*b)).collect(heap)
 }
 
 // How many words a row needs in which a line of so many bytes is read.
@@ -117,30 +155,7 @@ fn wrong_place(row: &mut Vec<u32>, line: &[u32]) -> anyhow::Result<Option<Span>>
     row.resize(row_len(line.len()), 0)?;
     match read_line(&mut row[..], line.len(), line.len()) {
         Ok(_) => Ok(None),
-        Err(refusal) => match refusal {
-            Refusal::Wrong(place) => Ok(Some(place)),
-            Refusal::NoRoom => Err(anyhow!("a line is too long")),
-        },
+        Err(Refusal::Wrong(place)) => Ok(Some(place)),
+        Err(Refusal::NoRoom) => Err(anyhow!("a line is too long")),
     }
-}
-
-// The place and the fault, the line, and a mark under the place.
-fn print_fault<W: Write>(
-    heap: Global,
-    path: &str,
-    number: u64,
-    line: &[u32],
-    place: Span,
-    out: &mut W,
-) -> anyhow::Result<()> {
-    let column = u64::from(place.from) + 1;
-    let head = format!(in heap; "{path}:{number}:{column}: fault 1: not understood\n")?;
-    out.write_all(head.as_bytes())?;
-    let mut shown = Vec::new(heap);
-    show_line(&mut shown, line)?;
-    shown.push(b'\n')?;
-    show_mark(&mut shown, place.from as usize, place.to as usize)?;
-    shown.push(b'\n')?;
-    out.write_all(&shown[..])?;
-    Ok(())
 }

@@ -6,7 +6,7 @@ mod check;
 mod options;
 
 use check::Totals;
-use options::Options;
+use options::Task;
 use std::io::{BufWriter, Write};
 use std::process::ExitCode;
 
@@ -22,35 +22,46 @@ a mark under the place, and at the end how many files, lines and faults there ar
 Status 1 where there is a fault, a file that can't be read, or wrong usage.
 ";
 
-fn run(rt: &HostRuntime, options: &Options) -> anyhow::Result<bool> {
+fn check_files(rt: &HostRuntime, files: &[String], faults_count: bool) -> anyhow::Result<ExitCode> {
     let mut out = BufWriter::new(rt.alloc(), rt.stdout())?;
-    if options.help {
-        out.write_all(HELP.as_bytes())?;
-        out.flush()?;
-        return Ok(true);
-    }
     let mut totals = Totals::new(rt.alloc());
-    for path in &options.files {
+    for path in files {
         totals.check_file(rt, path.as_str(), &mut out)?;
     }
-    totals.print(rt, &mut out)?;
+    totals.print(&mut out)?;
     out.flush()?;
-    Ok(totals.readable && (options.exit_zero || totals.faults == 0))
+    Ok(if totals.is_fine(faults_count) {
+        ExitCode::SUCCESS
+    } else {
+        ExitCode::FAILURE
+    })
+}
+
+fn run(rt: &HostRuntime, task: &Task) -> anyhow::Result<ExitCode> {
+    match task {
+        Task::Help => {
+            print!(rt; "{HELP}")?;
+            Ok(ExitCode::SUCCESS)
+        }
+        Task::Check {
+            files,
+            faults_count,
+        } => check_files(rt, &files[..], *faults_count),
+    }
 }
 
 // Where something was wrong, what it was has been said, and the status is 1.
 fn main(rt: HostRuntime) -> ExitCode {
-    let options = match Options::from_args(&rt) {
-        Ok(options) => options,
+    let task = match Task::from_args(&rt) {
+        Ok(task) => task,
         Err(e) => {
             let _ = eprintln!(rt; "kaqshune: {e}");
             let _ = eprint!(rt; "{HELP}");
             return ExitCode::FAILURE;
         }
     };
-    match run(&rt, &options) {
-        Ok(true) => ExitCode::SUCCESS,
-        Ok(false) => ExitCode::FAILURE,
+    match run(&rt, &task) {
+        Ok(code) => code,
         Err(e) => {
             let _ = eprintln!(rt; "kaqshune: {e}");
             ExitCode::FAILURE

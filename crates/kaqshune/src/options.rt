@@ -2,17 +2,20 @@
 use anyhow::anyhow;
 use std::env;
 
+// Files are gone over, and faults count for the status or don't; or it is said how the program is used.
 #[derive(Drop)]
-pub struct Options {
-    pub exit_zero: bool,
-    pub help: bool,
-    pub files: Vec<String>,
+pub enum Task {
+    Help,
+    Check {
+        files: Vec<String>,
+        faults_count: bool,
+    },
 }
 
-impl Options {
-    // The options and files of the command line; an error that says what is wrong with it.
-    pub fn from_args(rt: &HostRuntime) -> anyhow::Result<Options> {
-        let mut exit_zero = false;
+impl Task {
+    // The task of the command line; an error that says what is wrong with it.
+    pub fn from_args(rt: &HostRuntime) -> anyhow::Result<Task> {
+        let mut faults_count = true;
         let mut help = false;
         let mut only_files = false;
         let mut files = Vec::new(rt.alloc());
@@ -23,18 +26,20 @@ impl Options {
             }
             match arg.as_str() {
                 "--" => only_files = true,
-                "--exit-zero" => exit_zero = true,
+                "--exit-zero" => faults_count = false,
                 "--help" => help = true,
                 other => return Err(anyhow!(format!(in rt.alloc(); "there is no option {other}")?)),
             }
         }
-        if files.is_empty() && !help {
+        if help {
+            return Ok(Task::Help);
+        }
+        if files.is_empty() {
             return Err(anyhow!("no file is named"));
         }
-        Ok(Options {
-            exit_zero,
-            help,
+        Ok(Task::Check {
             files,
+            faults_count,
         })
     }
 }

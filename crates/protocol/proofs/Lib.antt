@@ -1,4 +1,3 @@
 mod Cuts
-mod Rows
 mod Values
 mod Written

@@ -1,7 +1,7 @@
 -- Digits read one after the other have the value that the definition gives, or are refused as it refuses.
 use Rattle.std.proofs.Common.{◌≡◌, ℕ, ◌+◌, ◌-◌, ◌*◌, ◌<◌, ◌≤◌, Bool, true, false, ◌&&◌, ltb, List, [], ◌∷◌, length, get_or, drop, Some, None, Option as Perhaps, sym, refl, ap, ◌∙◌, arith, ltb-false, ltb-true, le-ltb, lt-ltb}
 use Rattle.base.specs.Base.{pick}
-use Rattle.protocol.proofs.Rows.{at_place, drop_all}
+use Rattle.std.proofs.lemmas.List.{at_drop_all, at_drop_more}
 use Rattle.protocol.specs.Numbers.{is_digit, all_digits, value_on, limit, one_more, digits_value}
 
 -- digits one after the other, behind a value so far
@@ -45,7 +45,7 @@ refused true m cs e = let z : ◌≡◌ {A = ℕ} 0 1 = cc in absurd (omega arit
 refused false m cs e = refl
 
 at_digit : (bs : List ℕ) (i v : ℕ) → i < length bs → read_on v (drop i bs) ≡ read_on v (get_or bs i 0 ∷ drop (i + 1) bs)
-at_digit bs i v h = ap (read_on v) (at_place bs i h)
+at_digit bs i v h = at_drop_more (read_on v) bs i 0 h
 
 pub step : (bs : List ℕ) (i v w : ℕ) → i < length bs → read_on v (drop i bs) ≡ read_on 0 bs → Some w ≡ one_more v (get_or bs i 0) → read_on w (drop (i + 1) bs) ≡ read_on 0 bs
 step bs i v w h p e = sym (taken (is_digit (get_or bs i 0) && ltb (v * 10 + (get_or bs i 0 - 48)) limit) (v * 10 + (get_or bs i 0 - 48)) w (drop (i + 1) bs) e) ∙ sym (at_digit bs i v h) ∙ p
@@ -54,4 +54,4 @@ pub stop : (bs : List ℕ) (i v : ℕ) → i < length bs → read_on v (drop i b
 stop bs i v h p e = sym (refused (is_digit (get_or bs i 0) && ltb (v * 10 + (get_or bs i 0 - 48)) limit) (v * 10 + (get_or bs i 0 - 48)) (drop (i + 1) bs) e) ∙ sym (at_digit bs i v h) ∙ p ∙ read_value 0 bs (omega arith)
 
 pub whole : (bs : List ℕ) (i v : ℕ) → length bs ≤ i → read_on v (drop i bs) ≡ read_on 0 bs → Some v ≡ digits_value bs
-whole bs i v h p = sym (ap (read_on v) (drop_all bs i h)) ∙ p ∙ read_value 0 bs (omega arith)
+whole bs i v h p = sym (at_drop_all (read_on v) bs i h) ∙ p ∙ read_value 0 bs (omega arith)

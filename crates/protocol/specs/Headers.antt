@@ -39,15 +39,22 @@ head_of cs = take (blank_in cs) cs
 abbrev pub tail_of : List ℕ → List ℕ
 tail_of cs = drop (suc (blank_in cs)) cs
 
--- one number, two, four
+-- two numbers, four
+abbrev pub two_of : List ℕ → Perhaps (ℕ × ℕ)
+two_of cs = then_with (number_of (head_of cs)) (λ a. then_with (number_of (tail_of cs)) (λ b. Some (a, b)))
+
+abbrev pub four_of : List ℕ → Perhaps (ℕ × ℕ × ℕ × ℕ)
+four_of cs = then_with (number_of (head_of cs)) (λ a. then_with (number_of (head_of (tail_of cs))) (λ b. then_with (two_of (tail_of (tail_of cs))) (λ p. Some (a, b, p.0, p.1))))
+
+-- what is made of one number, of two, of four
 abbrev pub with_one : List ℕ → (ℕ → Header) → Perhaps Header
 with_one cs f = then_with (number_of cs) (λ a. Some (f a))
 
 abbrev pub with_two : List ℕ → (ℕ → ℕ → Header) → Perhaps Header
-with_two cs f = then_with (number_of (head_of cs)) (λ a. with_one (tail_of cs) (f a))
+with_two cs f = then_with (two_of cs) (λ p. Some (f p.0 p.1))
 
 abbrev pub with_four : List ℕ → (ℕ → ℕ → ℕ → ℕ → Header) → Perhaps Header
-with_four cs f = then_with (number_of (head_of cs)) (λ a. then_with (number_of (head_of (tail_of cs))) (λ b. with_two (tail_of (tail_of cs)) (f a b)))
+with_four cs f = then_with (four_of cs) (λ p. Some (f p.0 p.1 p.2 p.3))
 
 -- what a header line says, if it is one
 abbrev pub header_of : List ℕ → Perhaps Header

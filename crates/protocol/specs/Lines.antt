@@ -1,5 +1,5 @@
 -- How replies are written, a line each.
-use Rattle.std.specs.Prelude.{ℕ, List, [], ◌∷◌, ◌++◌, length, take, drop, codes, decimal, ◌==◌, nat_lt}
+use Rattle.std.specs.Prelude.{ℕ, List, [], ◌∷◌, ◌++◌, length, map, take, drop, codes, decimal, ◌==◌, nat_lt}
 use Rattle.base.specs.Base.{pick}
 use Rattle.helper.specs.declared.contract.Changed.{Changed}
 use Rattle.helper.specs.declared.contract.Changed.TheVariants.{Made, NoFile, NoPlace, NoRoom}
@@ -20,8 +20,7 @@ abbrev pub byte_of : ℕ → ℕ
 byte_of w = pick (nat_lt w 256) w 63
 
 abbrev pub bytes_of : List ℕ → List ℕ
-bytes_of [] = []
-bytes_of (w ∷ ws) = byte_of w ∷ bytes_of ws
+bytes_of ws = map byte_of ws
 
 -- a name: how long it is, a blank, and its bytes
 abbrev pub name_text : List ℕ → List ℕ

@@ -1,13 +1,13 @@
 // Header lines: which call, how long the name and the text behind it are, and the places that the call has.
-ghost use Rattle.std.specs.Prelude.{◌≡◌, [], ◌∷◌};
-ghost use Rattle.protocol.specs.Headers.{held, behind_word, blank_in, head_of, tail_of, with_one, with_two, with_four, header_of, counted_of, RequestSays, ended_of};
+ghost use Rattle.std.specs.Prelude.{◌≡◌, ◌<◌, ◌≤◌, [], ◌∷◌, length, MatchOption};
+ghost use Rattle.protocol.specs.Headers.{held, behind_word, blank_in, head_of, tail_of, two_of, four_of, header_of, counted_of, RequestSays, ended_of};
 ghost use Rattle.protocol.specs.declared.header.Header.{Header};
 
 use crate::number::number;
 use helper::request::Request;
 
 // What a header line says: for each call the lengths of what is counted, and places.
-#[derive(Clone, Copy)]
+#[derive(Clone, Copy, PartialEq, Eq, Debug)]
 pub enum Header {
     Open {
         name: usize,
@@ -39,102 +39,45 @@ pub enum Header {
 fn behind<'a>(line: &'a [u8], word: &[u8]) -> Option<&'a [u8]>
     ensures { held result ≡ behind_word word.now line.now }
 {
-    for (i, w) in word.iter().enumerate() {
-        if i >= line.len() {
-            return None;
-        }
-        if line[i] != *w {
-            return None;
-        }
-    }
-    Some(&line[word.len()..])
+    line.strip_prefix(word)
 }
 
-// How many bytes stand before the first blank.
-fn blank(bytes: &[u8]) -> usize
-    ensures { result ≡ blank_in bytes.now }
+// Where the first blank is.
+fn blank(bytes: &[u8]) -> Option<usize>
+    ensures { MatchOption result (length bytes.now ≤ blank_in bytes.now) (λ i. (i < length bytes.now) × (i ≡ blank_in bytes.now)) }
 {
-    for (i, c) in bytes.iter().enumerate() {
-        if *c == b' ' {
-            return i;
-        }
-    }
-    bytes.len()
+    bytes.iter().position(|c| *c == b' ')
 }
 
-// What stands before the first blank.
-fn head(bytes: &[u8]) -> &[u8]
-    ensures { result.now ≡ head_of bytes.now }
+// What stands before the first blank, and what behind it: nothing where there is no blank.
+fn cut(bytes: &[u8]) -> (&[u8], &[u8])
+    ensures before { result.0.now ≡ head_of bytes.now }
+    ensures behind { result.1.now ≡ tail_of bytes.now }
 {
-    let end = blank(bytes);
-    &bytes[..end.min(bytes.len())]
-}
-
-// What stands behind it; nothing where there is no blank.
-fn tail(bytes: &[u8]) -> &[u8]
-    ensures { result.now ≡ tail_of bytes.now }
-{
-    let end = blank(bytes);
-    if end < bytes.len() {
-        &bytes[end + 1..]
-    } else {
-        &bytes[bytes.len()..]
+    match blank(bytes) {
+        Some(at) => (&bytes[..at], &bytes[at + 1..]),
+        None => (bytes, &[]),
     }
 }
 
-fn open_header(rest: &[u8]) -> Option<Header>
-    ensures { result ≡ with_two rest.now Header.Open }
+// Two numbers, a blank between them.
+fn two(bytes: &[u8]) -> Option<(usize, usize)>
+    ensures { result ≡ two_of bytes.now }
 {
-    let name = number(head(rest))?;
-    let text = number(tail(rest))?;
-    Some(Header::Open { name, text })
+    let (first, second) = cut(bytes);
+    Some((number(first)?, number(second)?))
 }
 
-fn edit_header(rest: &[u8]) -> Option<Header>
-    ensures { result ≡ with_four rest.now Header.Edit }
+// Four numbers, a blank between each.
+fn four(bytes: &[u8]) -> Option<(usize, usize, usize, usize)>
+    ensures { result ≡ four_of bytes.now }
 {
-    let name = number(head(rest))?;
-    let places = tail(rest);
-    let from = number(head(places))?;
-    let last = tail(places);
-    let to = number(head(last))?;
-    let new = number(tail(last))?;
-    Some(Header::Edit {
-        name,
-        from,
-        to,
-        new,
-    })
-}
-
-fn close_header(rest: &[u8]) -> Option<Header>
-    ensures { result ≡ with_one rest.now Header.Close }
-{
-    let name = number(rest)?;
-    Some(Header::Close { name })
-}
-
-fn faults_header(rest: &[u8]) -> Option<Header>
-    ensures { result ≡ with_one rest.now Header.Faults }
-{
-    let name = number(rest)?;
-    Some(Header::Faults { name })
-}
-
-fn type_header(rest: &[u8]) -> Option<Header>
-    ensures { result ≡ with_two rest.now Header.TypeAt }
-{
-    let name = number(head(rest))?;
-    let place = number(tail(rest))?;
-    Some(Header::TypeAt { name, place })
-}
-
-fn declared_header(rest: &[u8]) -> Option<Header>
-    ensures { result ≡ with_two rest.now Header.DeclaredAt }
-{
-    let name = number(head(rest))?;
-    let place = number(tail(rest))?;
-    Some(Header::DeclaredAt { name, place })
+    let (first, rest) = cut(bytes);
+    let (second, rest) = cut(rest);
+    let first = number(first)?;
+    let second = number(second)?;
+    let (third, fourth) = two(rest)?;
+    Some((first, second, third, fourth))
 }
 
 // What a header line says, if it is one: single blanks, decimal numbers, nothing else.
@@ -142,22 +85,27 @@ pub fn read_header(line: &[u8]) -> Option<Header>
     ensures { result ≡ header_of line.now }
 {
     if let Some(rest) = behind(line, b"open ") {
-        return open_header(rest);
+        return two(rest).map(|(name, text)| Header::Open { name, text });
     }
     if let Some(rest) = behind(line, b"edit ") {
-        return edit_header(rest);
+        return four(rest).map(|(name, from, to, new)| Header::Edit {
+            name,
+            from,
+            to,
+            new,
+        });
     }
     if let Some(rest) = behind(line, b"close ") {
-        return close_header(rest);
+        return number(rest).map(|name| Header::Close { name });
     }
     if let Some(rest) = behind(line, b"faults ") {
-        return faults_header(rest);
+        return number(rest).map(|name| Header::Faults { name });
     }
     if let Some(rest) = behind(line, b"type at ") {
-        return type_header(rest);
+        return two(rest).map(|(name, place)| Header::TypeAt { name, place });
     }
     if let Some(rest) = behind(line, b"declared at ") {
-        return declared_header(rest);
+        return two(rest).map(|(name, place)| Header::DeclaredAt { name, place });
     }
     None
 }
@@ -170,10 +118,10 @@ impl Header {
         match *self {
             Header::Open { name, text } => name.checked_add(text),
             Header::Edit { name, new, .. } => name.checked_add(new),
-            Header::Close { name } => Some(name),
-            Header::Faults { name } => Some(name),
-            Header::TypeAt { name, .. } => Some(name),
-            Header::DeclaredAt { name, .. } => Some(name),
+            Header::Close { name }
+            | Header::Faults { name }
+            | Header::TypeAt { name, .. }
+            | Header::DeclaredAt { name, .. } => Some(name),
         }
     }
 }
@@ -210,9 +158,5 @@ pub fn request<'a>(header: &Header, body: &'a [u8]) -> Option<Request<'a>>
 pub fn ended(line: &[u8]) -> Option<&[u8]>
     ensures { held result ≡ ended_of line.now }
 {
-    match line.len() {
-        0 => None,
-        n if line[n - 1] == 10 => Some(&line[..n - 1]),
-        _ => None,
-    }
+    line.strip_suffix(b"\n")
 }

@@ -7,7 +7,7 @@ fn longer(value: usize, c: u8) -> Option<usize>
     ensures { result ≡ one_more value c }
 {
     match c {
-        b'0'..=b'9' => value.checked_mul(10)?.checked_add((c - b'0') as usize),
+        b'0'..=b'9' => value.checked_mul(10)?.checked_add(usize::from(c - b'0')),
         _ => None,
     }
 }

@@ -5,6 +5,7 @@ ghost use Rattle.std.specs.Prelude.{◌≡◌, ℕ, ◌-◌, ◌++◌, replicate
 ghost use Rattle.report.specs.Shown.{shown, all_shown, wide, mark};
 
 use std::alloc::AllocError;
+use std::iter::repeat_n;
 
 // A byte as it is shown.
 pub fn sign_of(c: u32) -> u8
@@ -21,34 +22,20 @@ pub fn sign_of(c: u32) -> u8
 pub fn show_line(out: &mut Vec<u8>, line: &[u32]) -> Result<(), AllocError>
     ensures { OnOk result (out.new.items ≡ out.old.items ++ all_shown line.now) }
 {
-    for c in line {
-        out.push(sign_of(*c))?;
-    }
-    Ok(())
-}
-
-// A byte n times, behind what stands in out.
-fn repeat(out: &mut Vec<u8>, byte: u8, n: usize) -> Result<(), AllocError>
-    ensures { OnOk result (out.new.items ≡ out.old.items ++ replicate n byte) }
-{
-    for _ in 0..n {
-        out.push(byte)?;
-    }
-    Ok(())
+    out.extend(line.iter().map(|c| sign_of(*c)))
 }
 
 // How wide the mark is: as the piece, or one sign behind the last piece.
 fn width(from: usize, to: usize) -> usize
     ensures { result ≡ wide from to }
 {
-    if from < to { to - from } else { 1 }
+    to.saturating_sub(from).max(1)
 }
 
 // The mark under the bytes from a place to another, behind what stands in out.
 pub fn show_mark(out: &mut Vec<u8>, from: usize, to: usize) -> Result<(), AllocError>
     ensures { OnOk result (out.new.items ≡ out.old.items ++ mark from to) }
 {
-    repeat(out, b' ', from)?;
-    repeat(out, b'^', width(from, to))?;
-    Ok(())
+    out.extend(repeat_n(b' ', from))?;
+    out.extend(repeat_n(b'^', width(from, to)))
 }

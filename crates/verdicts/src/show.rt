@@ -1,92 +1,65 @@
-// What was said of a line, in words: its faults; the types of its parts; where its names go.
-use std::io;
+// What was said of a line: its faults; the types of its parts; where its names go.
+use checker::lookup::Type;
+use checker::packed::TypeWord;
+use checker::said::{Event, Events, Link, Said};
 use std::io::Write;
+use std::{fmt, io};
+use world::cards::{card_of, type_sig};
 
-// What was said, by its tag: a fault, a type, a link to what is declared, to a name bound in the line, to a file.
-const FAULT: u32 = 0;
+// A type, by its name.
+#[derive(Clone, Copy)]
+struct TypeName(TypeWord);
 
-const TYPE: u32 = 1;
-
-const DECLARED: u32 = 2;
-
-const LOCAL: u32 = 3;
-
-fn type_name(word: u32) -> &'static str {
-    match word {
-        0 => "none",
-        1 => "num",
-        2 => "bool",
-        3 => "ports.port",
-        4 => "ports.ticket",
-        5 => "x.port2",
-        6 => "x.odd",
-        7 => "more.port2",
-        8 => "more.hold",
-        _ => "deep.s",
-    }
-}
-
-fn sig_name(number: u32) -> &'static str {
-    match number {
-        0 => "x.base",
-        1 => "x.flag",
-        2 => "x.port2",
-        3 => "x.Mine",
-        4 => "x.odd",
-        5 => "x.lost",
-        6 => "x.add",
-        7 => "ports.port",
-        8 => "ports.Vik",
-        9 => "ports.ticket",
-        10 => "more.port2",
-        11 => "more.Oslo",
-        12 => "more.hold",
-        13 => "more.k",
-        14 => "more.Lone",
-        _ => "deep.s",
-    }
-}
-
-fn show_fault<W: Write>(said: &[u32], out: &mut W) -> io::Result<()> {
-    if let [FAULT, from, to, x] = said {
-        write!(out, " {from} {to} {x};")?;
-    }
-    Ok(())
-}
-
-fn show_type<W: Write>(said: &[u32], out: &mut W) -> io::Result<()> {
-    if let [TYPE, from, to, x] = said {
-        let name = type_name(*x);
-        write!(out, " {from}-{to}:{name}")?;
-    }
-    Ok(())
-}
-
-fn show_link<W: Write>(said: &[u32], out: &mut W) -> io::Result<()> {
-    match said {
-        [FAULT | TYPE, ..] => Ok(()),
-        [DECLARED, from, to, x] => {
-            let name = sig_name(*x);
-            write!(out, " {from}-{to}:{name}")
+impl fmt::Display for TypeName {
+    fn fmt<W: fmt::Write>(&self, f: &mut fmt::Formatter<W>) -> fmt::Result {
+        match self.0.unpack() {
+            None => f.write_str("none"),
+            Some(Type::Num) => f.write_str("num"),
+            Some(Type::Bool) => f.write_str("bool"),
+            Some(Type::Of(ty)) => write!(f, "{}", card_of(type_sig(ty))),
         }
-        [LOCAL, from, to, x] => write!(out, " {from}-{to}:bound at {x}"),
-        [_, from, to, _] => write!(out, " {from}-{to}:file"),
-        _ => Ok(()),
     }
 }
 
-// The first so many things in a row, four words each.
-pub fn show_said<W: Write>(row: &[u32], events: usize, out: &mut W) -> io::Result<()> {
-    for said in row.chunks_exact(4).take(events) {
-        show_fault(said, out)?;
+// One thing that was said, as it stands in its list.
+#[derive(Clone, Copy)]
+struct Shown(Event);
+
+impl fmt::Display for Shown {
+    fn fmt<W: fmt::Write>(&self, f: &mut fmt::Formatter<W>) -> fmt::Result {
+        let (from, to) = (self.0.span.from, self.0.span.to);
+        match self.0.said {
+            Said::Fault(number) => write!(f, " {from} {to} {number};"),
+            Said::Type(ty) => write!(f, " {from}-{to}:{}", TypeName(ty)),
+            Said::Link(Link::Declared(sig)) => write!(f, " {from}-{to}:{}", card_of(sig)),
+            Said::Link(Link::Local(at)) => write!(f, " {from}-{to}:bound at {at}"),
+            Said::Link(Link::File) => write!(f, " {from}-{to}:file"),
+        }
     }
-    out.write_all(b" | types")?;
-    for said in row.chunks_exact(4).take(events) {
-        show_type(said, out)?;
-    }
-    out.write_all(b" | links")?;
-    for said in row.chunks_exact(4).take(events) {
-        show_link(said, out)?;
+}
+
+// Of the first so many things in a row, four words each, those that are listed.
+fn show_list<W: Write, L: Fn(Said) -> bool>(
+    row: &[u32],
+    events: usize,
+    out: &mut W,
+    is_listed: L,
+) -> io::Result<()>
+    requires { L.IsAlwaysCallable is_listed }
+{
+    for event in Events(row).take(events) {
+        if is_listed(event.said) {
+            write!(out, "{}", Shown(event))?;
+        }
     }
     Ok(())
+}
+
+// The first so many things in a row, in three lists.
+pub fn show_said<W: Write>(row: &[u32], events: usize, out: &mut W) -> io::Result<()> {
+    show_list(row, events, out, |said| matches!(said, Said::Fault(_)))?;
+    out.write_all(b" | types")?;
+    show_list(row, events, out, |said| matches!(said, Said::Type(_)))?;
+    out.write_all(b" | links")?;
+    show_list(row, events, out, |said| matches!(said, Said::Link(_)))
 }

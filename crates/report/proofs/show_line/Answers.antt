@@ -1,9 +1,9 @@
-use Rattle.std.proofs.Common.{vec_items}
-use Rattle.report.proofs.Shown.{one_more, whole}
+use Rattle.std.proofs.Common.{rules}
+use Rattle.std.proofs.lemmas.Iterator.{YieldsList-from_map, YieldsList-from_slice}
+use Rattle.std.proofs.lemmas.Iterator.Consumers.{YieldsList-at}
+use Rattle.std.proofs.lemmas.Iterator.Adapters.{items_from_extend}
+use Rattle.report.specs.Shown.{shown}
 use Rattle.report.proofs.show_line.Goals as goal
 
-pub loop-c-preserved : goal.loop-c-preserved
-loop-c-preserved c = one_more (vec_items c.loop-c.out) (vec_items c.args.out.now) c.args.line.now (vec_items c.push.new.self) c.loop-c.c-index c.sign_of.result c.loop-c-test.true c.loop-c.invariant c.sign_of.ensures c.in_ok-push.ensures.items
-
 pub returns : goal.returns
-returns c = whole (vec_items c.loop-c.out) (vec_items c.args.out.now) c.args.line.now c.loop-c.c-index c.loop-c-test.false c.loop-c.invariant
+returns c = let h = items_from_extend c.extend.result c.extend.ensures.ran (YieldsList-from_map _ shown (YieldsList-at c.map.ensures.source (YieldsList-from_slice c.args.line.now cc)) c.map.ensures.closure (λ x r q k. search rules)) in search rules
