@@ -5,17 +5,21 @@
 --   more   use deep | kind port2 = Oslo, Sund | rec hold = v s, back hold | def k() num = 1 | kind k = Lone
 --   deep   kind s = S
 -- A line is looked at as if it stood at the end of x.
-use Rattle.std.specs.Prelude.{ℕ, Bool, true, false, ◌&&◌, List, [], ◌∷◌, Some, None, Option as Maybe, ◌==◌}
+use Rattle.std.specs.Prelude.{◌≡◌, ℕ, ◌+◌, ◌<◌, Bool, true, false, ◌&&◌, List, [], ◌∷◌, map, Some, None, Option as Maybe, ◌==◌}
 use Rattle.std.proofs.Math.Option.{Option, some, none}
 use Rattle.base.specs.Base.{pick, Word, same}
 use Rattle.semantics.specs.Names.{Ty, t_num, t_bool, Slot, Sig, s_unknown, s_several}
 use Rattle.semantics.specs.Walk.{Query, q_here, q_there, q_file, q_before, k_sig, k_yes, Fetch, has}
-use Rattle.checker.specs.declared.lookup.Sort.{Sort}
-use Rattle.checker.specs.declared.lookup.Sort.TheVariants.{Kind, Const, Rec, Def}
+use Rattle.semantics.specs.declared.sort.Sort.{Sort}
+use Rattle.semantics.specs.declared.sort.Sort.TheVariants.{Kind, Constant, Record, Def}
 use Rattle.checker.specs.declared.lookup.Meaning.{Meaning}
 use Rattle.checker.specs.declared.lookup.Meaning.TheVariants.{Found, Unknown, Several}
-use Rattle.checker.specs.Rows.{Origin, Declared, Book, ty_of, sig_is}
+use Rattle.checker.specs.Rows.{Origin, Declared, Book, ty_of, sig_is, result_is}
+use Rattle.checker.specs.declared.lookup.«Type».{«Type» as Typ}
+use Rattle.checker.specs.declared.lookup.«Type».TheVariants.{Num, Bool as Truth, Of}
+use Rattle.checker.specs.Types.{typed, SomeSmall}
 use Rattle.world.specs.declared.cards.Card.{Card}
+use Rattle.world.specs.declared.cards.Slot.{Slot as Cell}
 
 -- names of files, and names
 abbrev pub f_x : Word
@@ -136,10 +140,6 @@ o_deep = origin f_deep n_s
 abbrev pub type_of : ℕ → Origin
 type_of n = pick (n == 0) o_port (pick (n == 1) o_ticket (pick (n == 2) o_own (pick (n == 3) o_odd (pick (n == 4) o_far (pick (n == 5) o_hold o_deep)))))
 
--- types that are the same have the same number here
-abbrev pub tag_of : ℕ → ℕ
-tag_of n = pick (n == 0) 0 (pick (n == 1) 1 (pick (n == 2) 2 (pick (n == 3) 3 (pick (n == 4) 4 (pick (n == 5) 5 6)))))
-
 -- what is declared by number; the last for all that are left
 abbrev pub slot1 : Word → Option Ty → Slot
 slot1 n o = record { name = n; ty = o }
@@ -157,10 +157,10 @@ abbrev pub d_own : Declared
 d_own = declares f_x n_port2 Kind [] none
 
 abbrev pub d_Mine : Declared
-d_Mine = declares f_x n_Mine Const [] (some (ty_of o_own))
+d_Mine = declares f_x n_Mine Constant [] (some (ty_of o_own))
 
 abbrev pub d_odd : Declared
-d_odd = declares f_x n_odd Rec (slot1 n_bad none ∷ slot1 n_n (some t_num) ∷ slot1 n_n (some t_bool) ∷ []) none
+d_odd = declares f_x n_odd Record (slot1 n_bad none ∷ slot1 n_n (some t_num) ∷ slot1 n_n (some t_bool) ∷ []) none
 
 abbrev pub d_lost : Declared
 d_lost = declares f_x n_lost Def (slot1 n_a none ∷ []) none
@@ -172,47 +172,31 @@ abbrev pub d_port : Declared
 d_port = declares f_ports n_port Kind [] none
 
 abbrev pub d_Vik : Declared
-d_Vik = declares f_ports n_Vik Const [] (some (ty_of o_port))
+d_Vik = declares f_ports n_Vik Constant [] (some (ty_of o_port))
 
 abbrev pub d_ticket : Declared
-d_ticket = declares f_ports n_ticket Rec (slot1 n_start (some (ty_of o_port)) ∷ slot1 n_end (some (ty_of o_port)) ∷ slot1 n_age (some t_num) ∷ []) none
+d_ticket = declares f_ports n_ticket Record (slot1 n_start (some (ty_of o_port)) ∷ slot1 n_end (some (ty_of o_port)) ∷ slot1 n_age (some t_num) ∷ []) none
 
 abbrev pub d_far : Declared
 d_far = declares f_more n_port2 Kind [] none
 
 abbrev pub d_Oslo : Declared
-d_Oslo = declares f_more n_Oslo Const [] (some (ty_of o_far))
+d_Oslo = declares f_more n_Oslo Constant [] (some (ty_of o_far))
 
 abbrev pub d_hold : Declared
-d_hold = declares f_more n_hold Rec (slot1 n_v (some (ty_of o_deep)) ∷ slot1 n_back (some (ty_of o_hold)) ∷ []) none
+d_hold = declares f_more n_hold Record (slot1 n_v (some (ty_of o_deep)) ∷ slot1 n_back (some (ty_of o_hold)) ∷ []) none
 
 abbrev pub d_k : Declared
 d_k = declares f_more n_k Def [] (some t_num)
 
 abbrev pub d_Lone : Declared
-d_Lone = declares f_more n_Lone Const [] none
+d_Lone = declares f_more n_Lone Constant [] none
 
 abbrev pub d_s : Declared
 d_s = declares f_deep n_s Kind [] none
 
 abbrev pub sig_of : ℕ → Declared
 sig_of n = pick (n == 0) d_base (pick (n == 1) d_flag (pick (n == 2) d_own (pick (n == 3) d_Mine (pick (n == 4) d_odd (pick (n == 5) d_lost (pick (n == 6) d_add (pick (n == 7) d_port (pick (n == 8) d_Vik (pick (n == 9) d_ticket (pick (n == 10) d_far (pick (n == 11) d_Oslo (pick (n == 12) d_hold (pick (n == 13) d_k (pick (n == 14) d_Lone d_s))))))))))))))
-
--- the same in words: the sort, the result, how many slots there are, and the types of three
-abbrev pub card1 : Sort → ℕ → ℕ → ℕ → ℕ → ℕ → Card
-card1 s r n a b c = record { sort = s; result = r; slots = n; a = a; b = b; c = c }
-
-abbrev pub row_of : Card → List ℕ
-row_of x = x.a ∷ x.b ∷ x.c ∷ []
-
-abbrev pub card_of : ℕ → Card
-card_of n = pick (n == 0) (card1 Def 1 1 3 0 0) (pick (n == 1) (card1 Def 2 0 0 0 0) (pick (n == 2) (card1 Kind 5 0 0 0 0) (pick (n == 3) (card1 Const 5 0 0 0 0) (pick (n == 4) (card1 Rec 6 3 0 1 2) (pick (n == 5) (card1 Def 0 1 0 0 0) (pick (n == 6) (card1 Def 1 2 1 1 0) (pick (n == 7) (card1 Kind 3 0 0 0 0) (pick (n == 8) (card1 Const 3 0 0 0 0) (pick (n == 9) (card1 Rec 4 3 3 3 1) (pick (n == 10) (card1 Kind 7 0 0 0 0) (pick (n == 11) (card1 Const 7 0 0 0 0) (pick (n == 12) (card1 Rec 8 2 9 8 0) (pick (n == 13) (card1 Def 1 0 0 0 0) (pick (n == 14) (card1 Const 0 0 0 0 0) (card1 Kind 9 0 0 0 0)))))))))))))))
-
--- the type's word of the first slot of that name
-abbrev pub found_in : List Slot → Word → List ℕ → Maybe ℕ
-found_in [] w row = None
-found_in (s ∷ ss) w [] = None
-found_in (s ∷ ss) w (r ∷ row) = pick (same s.name w) (Some r) (found_in ss w row)
 
 -- what names mean
 abbrev pub sig_no : ℕ → Meaning
@@ -259,3 +243,39 @@ known (q_before w) = has (k_yes (is_some (own_is w)))
 
 abbrev pub small_world : Book
 small_world = record { types = type_of; sigs = sig_of; knows = known }
+
+-- a card says what is declared; its types can be packed
+abbrev pub cell_is : Cell → Slot
+cell_is s = slot1 s.name.now (typed small_world s.ty)
+
+abbrev pub CellsSmall : List Cell → Type 0
+CellsSmall [] = Unit {0}
+CellsSmall (s ∷ ss) = SomeSmall s.ty × CellsSmall ss
+
+-- the types of a card are those of the world, by their numbers
+abbrev pub Numbered : Maybe Typ → Type 0
+Numbered None = Unit {0}
+Numbered (Some Num) = Unit {0}
+Numbered (Some Truth) = Unit {0}
+Numbered (Some (Of t)) = t.0 < 7
+
+abbrev pub CellsNumbered : List Cell → Type 0
+CellsNumbered [] = Unit {0}
+CellsNumbered (s ∷ ss) = Numbered s.ty × CellsNumbered ss
+
+abbrev pub CardNumbered : Card → Type 0
+CardNumbered c = Numbered c.result × CellsNumbered c.slots.now
+
+pub record CardSays (c : Card) (d : Declared) : Type 0 where
+  pub file : c.file.now ≡ d.file
+  pub name : c.name.now ≡ d.name
+  pub sort : c.sort ≡ d.sort
+  pub small : SomeSmall c.result
+  pub result : typed small_world c.result ≡ result_is d
+  pub cells_small : CellsSmall c.slots.now
+  pub slots : map cell_is c.slots.now ≡ d.slots
+
+-- the number of the first one of that name, the first having number n
+abbrev pub first_called : Word → ℕ → List Card → Maybe ℕ
+first_called w n [] = None
+first_called w n (c ∷ cs) = pick (same w c.name.now) (Some n) (first_called w (n + 1) cs)

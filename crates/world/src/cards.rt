@@ -1,209 +1,126 @@
 // What is declared in the small world, by numbers.
-ghost use Rattle.std.specs.Prelude.{◌≡◌, slice_index};
-ghost use Rattle.world.specs.World.{card_of, row_of, tag_of, type_sig};
+ghost use Rattle.std.specs.Prelude.{◌≡◌, ◌≤◌, length};
+ghost use Rattle.world.specs.World.{CardSays, CardNumbered, sig_of, type_sig};
 
-use checker::lookup::{BOOL, NONE, NUM, Sort};
+use checker::lookup::{SigId, Type, TypeId};
+use semantics::sort::Sort;
+use std::fmt;
 
-// Its sort; its type, as a word; how many fields or parameters it has, and the types of the first three.
-#[derive(Clone, Copy)]
+// A field or a parameter: its name, and its type if that is known.
+#[derive(Clone, Copy, Debug)]
+pub struct Slot {
+    pub name: &'static str,
+    pub ty: Option<Type>,
+}
+
+// Where it is declared, and under which name; its sort; its type, of a kind or a record itself; its fields or parameters.
+#[derive(Clone, Copy, Debug)]
 pub struct Card {
+    pub file: &'static str,
+    pub name: &'static str,
     pub sort: Sort,
-    pub result: u32,
-    pub slots: u32,
-    pub a: u32,
-    pub b: u32,
-    pub c: u32,
+    pub result: Option<Type>,
+    pub slots: &'static [Slot],
 }
 
-// The words of the types: port and ticket of ports, port2 and odd of x, port2 and hold of more, s of deep.
-pub const PORT: u32 = 3;
-
-pub const TICKET: u32 = 4;
-
-pub const OWN: u32 = 5;
-
-pub const ODD: u32 = 6;
-
-pub const FAR: u32 = 7;
-
-pub const HOLD: u32 = 8;
-
-pub const DEEP: u32 = 9;
-
-// In order: base, flag, port2, Mine, odd, lost and add of x; port, Vik and ticket of ports; port2, Oslo, hold, k and Lone of more; s of deep.
-pub fn card_of(sig: u32) -> Card
-    ensures { result ≡ card_of sig }
-{
-    match sig {
-        0 => Card {
-            sort: Sort::Def,
-            result: NUM,
-            slots: 1,
-            a: PORT,
-            b: NONE,
-            c: NONE,
-        },
-        1 => Card {
-            sort: Sort::Def,
-            result: BOOL,
-            slots: 0,
-            a: NONE,
-            b: NONE,
-            c: NONE,
-        },
-        2 => Card {
-            sort: Sort::Kind,
-            result: OWN,
-            slots: 0,
-            a: NONE,
-            b: NONE,
-            c: NONE,
-        },
-        3 => Card {
-            sort: Sort::Const,
-            result: OWN,
-            slots: 0,
-            a: NONE,
-            b: NONE,
-            c: NONE,
-        },
-        4 => Card {
-            sort: Sort::Rec,
-            result: ODD,
-            slots: 3,
-            a: NONE,
-            b: NUM,
-            c: BOOL,
-        },
-        5 => Card {
-            sort: Sort::Def,
-            result: NONE,
-            slots: 1,
-            a: NONE,
-            b: NONE,
-            c: NONE,
-        },
-        6 => Card {
-            sort: Sort::Def,
-            result: NUM,
-            slots: 2,
-            a: NUM,
-            b: NUM,
-            c: NONE,
-        },
-        7 => Card {
-            sort: Sort::Kind,
-            result: PORT,
-            slots: 0,
-            a: NONE,
-            b: NONE,
-            c: NONE,
-        },
-        8 => Card {
-            sort: Sort::Const,
-            result: PORT,
-            slots: 0,
-            a: NONE,
-            b: NONE,
-            c: NONE,
-        },
-        9 => Card {
-            sort: Sort::Rec,
-            result: TICKET,
-            slots: 3,
-            a: PORT,
-            b: PORT,
-            c: NUM,
-        },
-        10 => Card {
-            sort: Sort::Kind,
-            result: FAR,
-            slots: 0,
-            a: NONE,
-            b: NONE,
-            c: NONE,
-        },
-        11 => Card {
-            sort: Sort::Const,
-            result: FAR,
-            slots: 0,
-            a: NONE,
-            b: NONE,
-            c: NONE,
-        },
-        12 => Card {
-            sort: Sort::Rec,
-            result: HOLD,
-            slots: 2,
-            a: DEEP,
-            b: HOLD,
-            c: NONE,
-        },
-        13 => Card {
-            sort: Sort::Def,
-            result: NUM,
-            slots: 0,
-            a: NONE,
-            b: NONE,
-            c: NONE,
-        },
-        14 => Card {
-            sort: Sort::Const,
-            result: NONE,
-            slots: 0,
-            a: NONE,
-            b: NONE,
-            c: NONE,
-        },
-        _ => Card {
-            sort: Sort::Kind,
-            result: DEEP,
-            slots: 0,
-            a: NONE,
-            b: NONE,
-            c: NONE,
-        },
+// By its file and its name.
+impl fmt::Display for Card {
+    fn fmt<W: fmt::Write>(&self, f: &mut fmt::Formatter<W>) -> fmt::Result {
+        write!(f, "{}.{}", self.file, self.name)
     }
 }
 
-// The type of a slot, as a word.
-pub fn slot_word(x: Card, index: u32) -> u32
-    ensures { result ≡ slice_index (row_of x) index }
-{
-    match index {
-        0 => x.a,
-        1 => x.b,
-        2 => x.c,
-        _ => NONE,
-    }
+const NUM: Option<Type> = Some(Type::Num);
+
+const BOOL: Option<Type> = Some(Type::Bool);
+
+// The types that are declared: port and ticket of ports, port2 and odd of x, port2 and hold of more, s of deep.
+const PORT: Option<Type> = Some(Type::Of(TypeId(0)));
+
+const TICKET: Option<Type> = Some(Type::Of(TypeId(1)));
+
+const OWN: Option<Type> = Some(Type::Of(TypeId(2)));
+
+const ODD: Option<Type> = Some(Type::Of(TypeId(3)));
+
+const FAR: Option<Type> = Some(Type::Of(TypeId(4)));
+
+const HOLD: Option<Type> = Some(Type::Of(TypeId(5)));
+
+const DEEP: Option<Type> = Some(Type::Of(TypeId(6)));
+
+macro_rules! card {
+    ($file:literal, $name:literal, $sort:ident, $result:expr, [$(($slot:literal, $ty:expr)),*]) => {
+        Card {
+            file: $file,
+            name: $name,
+            sort: Sort::$sort,
+            result: $result,
+            slots: &[$(Slot { name: $slot, ty: $ty }),*],
+        }
+    };
 }
 
-// Types that are the same have the same number here.
-pub fn tag(ty: u32) -> u32
-    ensures { result ≡ tag_of ty }
+// All that is declared: first what x declares, then what the files declare that x uses. A number is a place in it.
+pub(crate) static CARDS: [Card; 16] = [
+    card!("x", "base", Def, NUM, [("p", PORT)]),
+    card!("x", "flag", Def, BOOL, []),
+    card!("x", "port2", Kind, OWN, []),
+    card!("x", "Mine", Constant, OWN, []),
+    card!(
+        "x",
+        "odd",
+        Record,
+        ODD,
+        [("bad", None), ("n", NUM), ("n", BOOL)]
+    ),
+    card!("x", "lost", Def, None, [("a", None)]),
+    card!("x", "add", Def, NUM, [("a", NUM), ("b", NUM)]),
+    card!("ports", "port", Kind, PORT, []),
+    card!("ports", "Vik", Constant, PORT, []),
+    card!(
+        "ports",
+        "ticket",
+        Record,
+        TICKET,
+        [("start", PORT), ("end", PORT), ("age", NUM)]
+    ),
+    card!("more", "port2", Kind, FAR, []),
+    card!("more", "Oslo", Constant, FAR, []),
+    card!("more", "hold", Record, HOLD, [("v", DEEP), ("back", HOLD)]),
+    card!("more", "k", Def, NUM, []),
+    card!("more", "Lone", Constant, None, []),
+    card!("deep", "s", Kind, DEEP, []),
+];
+
+// How many of them x declares, and how many can be named in x: the first ones.
+pub(crate) const OWN_CARDS: usize = 7;
+
+pub(crate) const NAMED_CARDS: usize = 15;
+
+// Of what has this number: the last one, where no other has it.
+pub fn card_of(sig: SigId) -> Card
+    ensures says { CardSays result (sig_of sig.0) }
+    ensures few { length result.slots.now ≤ 3 }
+    ensures numbered { CardNumbered result }
 {
-    match ty {
-        0 => 0,
-        1 => 1,
-        2 => 2,
-        3 => 3,
-        4 => 4,
-        5 => 5,
-        _ => 6,
-    }
+    CARDS[(sig.0 as usize).min(CARDS.len() - 1)]
 }
 
-// What a type is, by its number.
-pub fn type_sig(ty: u32) -> u32
-    ensures { result ≡ type_sig ty }
+// What declares each type.
+static TYPES: [SigId; 7] = [
+    SigId(7),
+    SigId(9),
+    SigId(2),
+    SigId(4),
+    SigId(10),
+    SigId(12),
+    SigId(15),
+];
+
+// What a type is: the last one, where no other has its number.
+pub fn type_sig(ty: TypeId) -> SigId
+    ensures { result.0 ≡ type_sig ty.0 }
 {
-    match ty {
-        0 => 7,
-        1 => 9,
-        2 => 2,
-        3 => 4,
-        4 => 10,
-        5 => 12,
-        _ => 15,
-    }
+    TYPES[(ty.0 as usize).min(TYPES.len() - 1)]
 }

@@ -1,13 +1,35 @@
-use Rattle.std.proofs.Common.{ℕ, take, Option as Maybe, sym, ap, ◌∙◌, subst}
-use Rattle.parser.specs.Rows.{span_of}
-use Rattle.checker.specs.Rows.{FieldSays}
-use Rattle.world.specs.World.{small_world, row_of, card_of, sig_of, found_in}
-use Rattle.world.proofs.Fit.{fits, field_says}
+use Rattle.std.proofs.Common.{◌≡◌, Some, None, subst, sym, rules, tests}
+use mathlib.Core.Option.{some}
+use Rattle.std.proofs.lemmas.Iterator.{YieldsList-from_slice}
+use Rattle.std.proofs.lemmas.Iterator.Search.{find_from_yields_List}
+use Rattle.base.specs.Base.{same}
+use Rattle.semantics.specs.Check.{field_of}
+use Rattle.checker.specs.Rows.{slot_type}
+use Rattle.checker.specs.Types.{typed, FieldTyped}
+use Rattle.world.specs.World.{small_world, sig_of}
+use Rattle.world.proofs.Fit.{found_says}
 use Rattle.world.proofs.world.WorldLookup.field.Goals as goal
 
-pub returns : goal.returns
-returns c =
-    let n = c.args.sig.0 in
-    let w = (span_of (take c.args.b.len c.args.words.now) c.args.name).w in
-    let says : Maybe ℕ → Type 0 = λ m. FieldSays small_world (sig_of n).slots w m in
-    subst says (sym (c.field_word.ensures ∙ ap (λ x. found_in (sig_of n).slots x (row_of (card_of n))) c.word_of.ensures)) (field_says (sig_of n).slots (row_of (card_of n)) (fits n).row_fits w)
+pub returns-in_err-slot-clause-is : goal.returns-in_err-slot-clause-is
+returns-in_err-slot-clause-is c =
+    let w = c.word_of-name.result.now in
+    let card = c.card_of-card.result in
+    let d = sig_of c.args.sig.0 in
+    let says = found_says card d c.card_of-card.ensures.says w None (find_from_yields_List (λ s. same w s.name.now) _ _ None c.in_err-slot.ensures.ran (YieldsList-from_slice card.slots.now cc) (λ x b q k. search (rules, tests))) in
+    let back : c.from_residual.result ≡ None = search rules in
+    subst (λ v. FieldTyped small_world d.slots v c.from_residual.result) c.word_of-name.ensures (subst (FieldTyped small_world d.slots w) (sym back) says)
+
+pub returns-clause-small : goal.returns-clause-small
+returns-clause-small c =
+    let w = c.word_of-name.result.now in
+    let card = c.card_of-card.result in
+    let d = sig_of c.args.sig.0 in
+    (found_says card d c.card_of-card.ensures.says w (Some c.in_ok-slot.slot.now) (find_from_yields_List (λ s. same w s.name.now) c.find.new.self _ (Some c.in_ok-slot.slot) c.in_ok-slot.ensures.ran (YieldsList-from_slice card.slots.now c.iter.ensures.rest) (λ x b q k. search (rules, tests)))).1
+
+pub returns-clause-is : goal.returns-clause-is
+returns-clause-is c =
+    let w = c.word_of-name.result.now in
+    let card = c.card_of-card.result in
+    let d = sig_of c.args.sig.0 in
+    let says = found_says card d c.card_of-card.ensures.says w (Some c.in_ok-slot.slot.now) (find_from_yields_List (λ s. same w s.name.now) c.find.new.self _ (Some c.in_ok-slot.slot) c.in_ok-slot.ensures.ran (YieldsList-from_slice card.slots.now c.iter.ensures.rest) (λ x b q k. search (rules, tests))) in
+    subst (λ v. slot_type (field_of d.slots v) ≡ some (typed small_world c.in_ok-slot.slot.now.ty)) c.word_of-name.ensures says.0
