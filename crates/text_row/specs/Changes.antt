@@ -90,6 +90,10 @@ pub record ChangeSays (v w : ℕ) (m m' : List ℕ) : Type 0 where
   pub order : InOrder v m'
   pub stays : Stays v w m m'
 
+-- the files of a row, to be read
+abbrev pub FilesSays : ℕ → List ℕ → ℕ → List ℕ → List ℕ → Type 0
+FilesSays v m nb t h = (nb ≡ v) × (t ≡ table v v m) × (h ≡ half v (2 * v) m)
+
 -- the file of a name, which stands at the front of the words to work in, if it isn't too long
 pub record NamedSays (v w : ℕ) (name m m' : List ℕ) (r : Perhaps ℕ) : Type 0 where
   pub found : FileOfSays (texts_in v m) name r
@@ -138,6 +142,10 @@ pub record RecordSays (v k : ℕ) (m : List ℕ) (p : ℕ) : Type 0 where
   pub file_is : (y : File) → slice_index_or (texts_in v m) k y ≡ y → file_at v (half v (2 * v) m) p ≡ y
   pub name_is : get_or m (2 * v + p) 0 ≡ slice_index (half v (2 * v) m) p
   pub size_is : get_or m (2 * v + (p + 1)) 0 ≡ slice_index (half v (2 * v) m) (p + 1)
+
+-- the number of the k-th file's name, as its record has it
+abbrev pub NameSays : ℕ → ℕ → List ℕ → ℕ → Type 0
+NameSays v k m f = (p : ℕ) × RecordSays v k m p × (f ≡ get_or m (2 * v + p) 0)
 
 -- the text of the k-th file can be laid out, and edited there
 pub record CanLay (v w k a b : ℕ) (new m : List ℕ) : Type 0 where

@@ -7,7 +7,6 @@ ghost use Rattle.std.proofs.Math.Option.{none};
 
 use crate::half::Part;
 use crate::row::{Edit, Row};
-use crate::weights::Files;
 use crate::widen::widen;
 use interner::refused::{NoRoom, Refused};
 
@@ -35,19 +34,13 @@ impl Row {
         ensures kept { ChangeSays self.unit self.work mem.old mem.new }
         ensures says { OpenSays (texts_in self.unit mem.old) (length mem.old) name.now text.now (texts_in self.unit mem.new) result }
     {
-        let Row { unit, work } = self;
-        let files = Files {
-            table: &mem[unit..unit + unit],
-            words: &mem[2 * unit..2 * unit + 9 * unit],
-            unit,
-        };
-        if files.room_with(k, name.len(), text.len()) > mem.len() {
+        let work = self.work;
+        if self.room_with(mem, k, name.len(), text.len()) > mem.len() {
             return Err(NoRoom);
         }
         self.make_room(mem, 2 * text.len() + 5, text.len() + 1);
         widen(mem, work, text);
-        let p = self.record_of(mem, k);
-        let f = mem[2 * unit + p];
+        let f = self.name_of(mem, k);
         let text = Part {
             at: work,
             len: text.len(),
@@ -64,14 +57,9 @@ impl Row {
         ensures kept { ChangeSays self.unit self.work mem.old mem.new }
         ensures says { OpenSays (texts_in self.unit mem.old) (length mem.old) name.now text.now (texts_in self.unit mem.new) result }
     {
-        let Row { unit, work } = self;
-        let files = Files {
-            table: &mem[unit..unit + unit],
-            words: &mem[2 * unit..2 * unit + 9 * unit],
-            unit,
-        };
-        let k = files.table[0] as usize;
-        if files.room_with(k, name.len(), text.len()) > mem.len() {
+        let work = self.work;
+        let k = self.count(mem);
+        if self.room_with(mem, k, name.len(), text.len()) > mem.len() {
             return Err(NoRoom);
         }
         self.make_room(mem, name.len() + 2 * text.len() + 6, text.len() + 2);
@@ -117,18 +105,12 @@ impl Row {
             return Err(Refused::NoRoom);
         }
         let len = from + new.len() + (old - to);
-        let files = Files {
-            table: &mem[unit..unit + unit],
-            words: &mem[2 * unit..2 * unit + 9 * unit],
-            unit,
-        };
-        if files.room_with(k, name.len(), len) > mem.len() {
+        if self.room_with(mem, k, name.len(), len) > mem.len() {
             return Err(Refused::NoRoom);
         }
         self.make_room(mem, 2 * len + 5, len + 1);
         self.lay_edited(mem, k, edit);
-        let p = self.record_of(mem, k);
-        let f = mem[2 * unit + p];
+        let f = self.name_of(mem, k);
         self.put_text(mem, k, f, Part { at: work, len });
         Ok(())
     }
@@ -142,8 +124,7 @@ impl Row {
         let Some(k) = self.find_named(mem, name) else {
             return false;
         };
-        let p = self.record_of(mem, k);
-        let f = mem[2 * self.unit + p];
+        let f = self.name_of(mem, k);
         self.drop_files(mem, f);
         true
     }

@@ -1,8 +1,9 @@
 // A file's place in the row: the file of a name, room for another text, and the text put there.
-ghost use Rattle.std.specs.Prelude.{◌+◌, ◌-◌, ◌*◌, ◌<◌, ◌≤◌, length, slice_index};
-ghost use Rattle.text_row.specs.Changes.{CanLay, CanMake, CanPutText, LaySays, Long, MakeSays, NamedSays, PutTextSays, RecordSays, SpliceSays, texts_in};
+ghost use Rattle.std.specs.Prelude.{◌≡◌, ◌+◌, ◌-◌, ◌*◌, ◌<◌, ◌≤◌, length, slice_index};
+ghost use Rattle.text_row.specs.Changes.{CanLay, CanMake, CanPutText, FilesSays, LaySays, Long, MakeSays, NameSays, NamedSays, PutTextSays, RecordSays, SpliceSays, texts_in};
 ghost use Rattle.text_row.specs.Files.{CanPut, DropSays, EnlistSays, Fits, PutSays};
 ghost use Rattle.text_row.specs.Row.{half, table};
+ghost use Rattle.text_row.specs.Weights.{RoomSays};
 
 use crate::half::Part;
 use crate::row::{Edit, Row};
@@ -11,22 +12,50 @@ use crate::widen::widen;
 use interner::records::drop_named;
 
 impl Row {
+    // The files as they stand.
+    fn files(self, mem: &[u32]) -> Files<'_>
+        requires { 11 * self.unit ≤ length mem.now }
+        ensures { FilesSays self.unit mem.now result.unit result.table.now result.words.now }
+    {
+        let unit = self.unit;
+        Files {
+            table: &mem[unit..unit + unit],
+            words: &mem[2 * unit..2 * unit + 9 * unit],
+            unit,
+        }
+    }
+
+    // How many files there are.
+    pub fn count(self, mem: &[u32]) -> usize
+        requires { (0 < self.unit) × (11 * self.unit ≤ length mem.now) }
+        ensures { result ≡ slice_index (table self.unit self.unit mem.now) 0 }
+    {
+        self.files(mem).table[0] as usize
+    }
+
+    // The room that the texts want once the k-th place, that of a file or the one behind the last, has a file with a name and a text so long.
+    pub fn room_with(self, mem: &[u32], k: usize, name: usize, size: usize) -> usize
+        requires row { Long self.unit self.work mem.now }
+        requires there { k ≤ slice_index (table self.unit self.unit mem.now) 0 }
+        requires short { (name < 8589934592) × (size < 8589934592) }
+        ensures { RoomSays (texts_in self.unit mem.now) k name size result }
+    {
+        self.files(mem).room_with(k, name, size)
+    }
+
     // The file of a name, if it is open. The name is laid at the front of the words to work in.
     pub fn find_named(self, mem: &mut [u32], name: &[u8]) -> Option<usize>
         requires { Long self.unit self.work mem.old }
         ensures { NamedSays self.unit self.work name.now mem.old mem.new result }
     {
-        let Row { unit, work } = self;
+        let work = self.work;
         if name.len() > mem.len() - work {
             return None;
         }
         widen(mem, work, name);
-        let files = Files {
-            table: &mem[unit..unit + unit],
-            words: &mem[2 * unit..2 * unit + 9 * unit],
-            unit,
-        };
-        files.file_of(&mem[work..work + name.len()])
+        // shared whole: two parts of it are read at once
+        let mem = &mem[..];
+        self.files(mem).file_of(&mem[work..work + name.len()])
     }
 
     // Sees to it that the half in use has room for so many words and numbers more.
@@ -79,6 +108,15 @@ impl Row {
     {
         let unit = self.unit;
         mem[unit + (1 + k)] as usize
+    }
+
+    // The number of the k-th file's name.
+    pub fn name_of(self, mem: &[u32], k: usize) -> u32
+        requires { (Fits self.unit (2 * self.unit) (table self.unit self.unit mem.now) (half self.unit (2 * self.unit) mem.now)) × ((k < length (texts_in self.unit mem.now)) × (20 * self.unit ≤ length mem.now)) }
+        ensures { NameSays self.unit k mem.now result }
+    {
+        let p = self.record_of(mem, k);
+        mem[2 * self.unit + p]
     }
 
     // The text of the k-th file, with a part of it replaced, from a place above all that is kept on.
