@@ -10,7 +10,8 @@ use std::io::{BufRead, BufReader, Write};
 fn row_of(heap: Global, line: &[u8], words: usize) -> Result<Vec<u32>, AllocError>
     ensures { IfOk result (λ row. row.items ≡ take words line.now ++ replicate (words - length line.now) 0) }
 {
-    let mut row: Vec<u32> = line.iter().map(|c| u32::from(*c)).collect(heap)?;
+    let mut row = Vec::with_capacity(heap, words)?;
+    row.extend(line.iter().map(|c| u32::from(*c)))?;
     row.resize(words, 0)?;
     Ok(row)
 }
