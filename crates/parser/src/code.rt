@@ -1,5 +1,6 @@
 // Flat code in words: five words an operation.
 ghost use Rattle.std.specs.Prelude.{◌≡◌, ℕ, ◌+◌, ◌*◌, ◌<◌, ◌≤◌, List, [], ◌∷◌, ◌++◌, length, take, slice_index};
+ghost use Rattle.lexer.specs.Kinds.{operator};
 ghost use Rattle.grammar.specs.Machine.{patch};
 ghost use Rattle.parser.specs.Rows.{sign_of, op_of, op_in, ops, ops_of, op_is, frames_of};
 
@@ -39,7 +40,13 @@ pub enum Op {
     Bad(Span),
 }
 
-// The operator of a number. No From: number and operator are both of crates below.
+// An operator's number, and the operator of a number. No From: number and operator are both of crates below.
+pub fn number_of(o: Operator) -> u32
+    ensures { result ≡ operator o }
+{
+    o as u32
+}
+
 pub fn sign(a: u32) -> Operator
     ensures { result ≡ sign_of a }
 {
@@ -69,7 +76,7 @@ impl From<Op> for [u32; 5] {
             Op::Arg => [3, 0, 0, 0, 0],
             Op::End(a) => [4, a, 0, 0, 0],
             Op::Field(s) => [5, s.from, s.to, 0, 0],
-            Op::Sign(o) => [6, o as u32, 0, 0, 0],
+            Op::Sign(o) => [6, number_of(o), 0, 0, 0],
             Op::Cond => [7, 0, 0, 0, 0],
             Op::If(a) => [8, a, 0, 0, 0],
             Op::Bind(s) => [9, s.from, s.to, 0, 0],

@@ -2,7 +2,7 @@
 ghost use Rattle.std.specs.Prelude.{◌≡◌, ℕ, ◌+◌, ◌-◌, ◌*◌, ◌<◌, ◌≤◌, List, [], ◌∷◌, length, take};
 ghost use Rattle.parser.specs.Rows.{frame_of, frames, frames_of, frame_is, frame_in, NewestSays};
 
-use crate::code::{Span, sign};
+use crate::code::{Span, number_of, sign};
 use lexer::token::Operator;
 
 // What waits for a value: brackets that began here; a call, where in the code it begins and how many arguments it has so far;
@@ -32,7 +32,7 @@ impl From<Frame> for [u32; 4] {
             Frame::Cond(a) => [4, a, 0, 0],
             Frame::Then(a) => [5, a, 0, 0],
             Frame::Else(a) => [6, a, 0, 0],
-            Frame::Right(o) => [7, o as u32, 0, 0],
+            Frame::Right(o) => [7, number_of(o), 0, 0],
         }
     }
 }
