@@ -99,6 +99,8 @@ pub fn check<L: Lookup>(look: &L, words: &mut [u32], b: Bounds) -> Result<usize,
     if !b.has_room(words.len()) {
         return Err(Stop::NoRoom);
     }
-    let p = Checker { look, b }.walk(words)?;
-    Ok(p.events)
+    match (Checker { look, b }).walk(words) {
+        Ok(p) => Ok(p.events),
+        Err(want) => Err(Stop::from(want)),
+    }
 }

@@ -40,7 +40,8 @@ impl TypeWord {
     }
 
     pub fn unpack(self) -> Option<Type>
-        ensures { (k : Book) → typed k result ≡ typ k self.0 }
+        ensures is { (k : Book) → typed k result ≡ typ k self.0 }
+        ensures small { SomeSmall result }
     {
         match self.0 {
             NONE => None,
