@@ -15,7 +15,7 @@ pub record NextSays (nb cap : ℕ) (m : List ℕ) (n : ℕ) : Type 0 where
 
 -- the first number that is free, if there is one
 abbrev pub FreeSays : ℕ → List ℕ → Perhaps ℕ → Type 0
-FreeSays nb m (Some n) = (0 < n) × (n < count m) × (place nb m n ≡ 0)
+FreeSays nb m (Some n) = (0 < n) × (n < count m) × (place nb m n ≡ 0) × ((k : ℕ) → 0 < k → k < n → 0 < place nb m k)
 FreeSays nb m None = (k : ℕ) → 0 < k → k < count m → 0 < place nb m k
 
 -- these bytes have a number; or nothing changed: each number is in use, or there is no room left

@@ -28,7 +28,16 @@ impl Sizes {
         requires { Sound self.buckets self.cap words.now }
         ensures { FindSays self.buckets words.now key.now result }
     {
-        let mut n = head_of(words, self.bucket_of(key));
+        self.find_in(words, self.bucket_of(key), key)
+    }
+
+    // The number of these bytes, which belong into this bucket, if they have one.
+    pub(crate) fn find_in(self, words: &[u32], b: usize, key: &[u32]) -> Option<u32>
+        requires sound { Sound self.buckets self.cap words.now }
+        requires bucket { b ≡ hash_from 0 key.now % self.buckets }
+        ensures { FindSays self.buckets words.now key.now result }
+    {
+        let mut n = head_of(words, b);
         'chain: loop {
             let p = self.place_of(words, n);
             if p == 0 {
@@ -48,11 +57,12 @@ impl Sizes {
         requires room { end words.old + 1 + length key.now ≤ length words.old }
         ensures { Interned self.buckets self.cap words.old key.now words.new result }
     {
-        if let Some(n) = self.find(words, key) {
+        let b = self.bucket_of(key);
+        if let Some(n) = self.find_in(words, b, key) {
             return n;
         }
         let n = words[0];
-        self.add(words, n, key);
+        self.add_in(words, b, n, key);
         n
     }
 
@@ -61,7 +71,15 @@ impl Sizes {
         requires { CanAdd self.buckets self.cap words.old n key.now }
         ensures { Added self.buckets self.cap words.old n key.now words.new }
     {
-        let b = self.bucket_of(key);
+        self.add_in(words, self.bucket_of(key), n, key);
+    }
+
+    // A number, free or the next, gets bytes that no other has, and that belong into this bucket.
+    pub(crate) fn add_in(self, words: &mut [u32], b: usize, n: u32, key: &[u32])
+        requires new { CanAdd self.buckets self.cap words.old n key.now }
+        requires bucket { b ≡ hash_from 0 key.now % self.buckets }
+        ensures { Added self.buckets self.cap words.old n key.now words.new }
+    {
         let count = if n < words[0] { words[0] } else { n + 1 };
         let from = words[1];
         let to = from + 1 + key.len() as u32;

@@ -39,14 +39,15 @@ impl Sizes {
         requires { Sound self.buckets self.cap words.old }
         ensures { InternSays self.buckets self.cap words.old key.now words.new result }
     {
-        if let Some(n) = self.find(words, key) {
+        let b = self.bucket_of(key);
+        if let Some(n) = self.find_in(words, b, key) {
             return Ok(n);
         }
         let n = self.next_number(words);
         if n as usize >= self.cap || words.len() - (words[1] as usize) < 1 + key.len() {
             return Err(NoRoom);
         }
-        self.add(words, n, key);
+        self.add_in(words, b, n, key);
         Ok(n)
     }
 

@@ -20,6 +20,8 @@ pub fn create(files: &mut [u32], words: &mut [u32], sizes: Sizes) -> Result<(), 
     ensures { CreateSays sizes.buckets sizes.cap files.old words.old files.new words.new result }
 {
     roomy(files, words, sizes)?;
+    // what stood behind the words that `clear` writes goes too
+    words[2 + sizes.buckets..].fill(0);
     sizes.clear(words, 1);
     files[0] = 0;
     Ok(())
@@ -38,6 +40,7 @@ pub fn reclaim(
     ensures { ReclaimSays sizes.buckets sizes.cap files.now words.now table.new row.new result }
 {
     roomy(table, row, sizes)?;
+    row[2 + sizes.buckets + 2 * words[0] as usize..].fill(0);
     sizes.clear(row, words[0]);
     table[0] = 0;
     let from = View {

@@ -1,7 +1,7 @@
--- Invariant and measure of find.
+-- Invariant and measure of find_in.
 use Rattle.interner.specs.Index.{place}
 use Rattle.interner.proofs.Chains.{Walk}
-use Rattle.interner.proofs.index.Sizes.find.Given as goal
+use Rattle.interner.proofs.index.Sizes.find_in.Given as goal
 
 abbrev pub invariant-chain : goal.invariant-chain
 invariant-chain l = Walk l.self.buckets l.words l.key l.n
