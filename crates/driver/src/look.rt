@@ -11,7 +11,8 @@ use memo::log::NoRoom;
 use memo::record::Record;
 
 impl Desk {
-    // The entry at a depth, from a question on.
+    // The entry at a depth, from a question on. Inlined, as most turns are such looks.
+    #[inline(always)]
     pub fn look(self, mem: &mut [u32], k: &Key, depth: usize, here: Cursor) -> Result<At, NoRoom>
         requires area { Area mem.old self }
         requires looks { Looks (memo_in self.known self.memo mem.old) depth here.index here.place }

@@ -69,7 +69,8 @@ impl Head {
     }
 }
 
-// Words put in front of the last f.
+// Words put in front of the last f. Inlined, so that few words are copied without a call.
+#[inline(always)]
 fn push(work: &mut [u32], f: usize, xs: &[u32])
     requires { f + length xs.now ≤ length work.old }
     ensures { Pushed f xs.now work.old work.new }
@@ -79,6 +80,7 @@ fn push(work: &mut [u32], f: usize, xs: &[u32])
 }
 
 // A frame's first words put in front of the frames, or of the keys that its rule asked.
+#[inline(always)]
 pub fn push_head(work: &mut [u32], f: usize, head: Head)
     requires { (f + 7 ≤ length work.old) × HeadFits head }
     ensures adds { deep (f + 7) work.new ≡ head_words head (deep f work.old) }

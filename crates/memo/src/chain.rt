@@ -6,7 +6,7 @@ ghost use Rattle.memo.specs.Says.{OldestSays, NewestSays};
 
 use crate::index::Memo;
 use crate::record::{OLDER, Record};
-use engine::key::Key;
+use engine::key::{Key, same_key};
 
 // The bucket of a key.
 pub fn bucket_of(k: &Key, buckets: usize) -> usize
@@ -26,7 +26,7 @@ pub(crate) fn along<'a>(words: &'a [u32], from: usize, k: &Key) -> Option<Record
     let mut depth = from;
     while depth != 0 {
         let record = Record { words, depth };
-        if record.key() == *k {
+        if same_key(&record.key(), k) {
             return Some(record);
         }
         depth = record.word(OLDER) as usize;

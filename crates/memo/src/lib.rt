@@ -1,5 +1,5 @@
 // The memo: the engine's entries in one lent row of words. What a caller sees are entries: to store one, find one, read it, go back to
-// a mark, and repack. Records and chains are for whoever moves entries within a larger row. Knows nothing of rules or inputs.
+// a mark, and repack. A record is an entry where it stands, and a chain leads to it. Knows nothing of rules or inputs.
 #![tactic(auto)]
 
 pub mod chain;

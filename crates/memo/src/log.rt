@@ -10,7 +10,7 @@ use crate::index::Memo;
 use crate::record::Parts;
 use crate::row::{BUCKETS, HEADS, LOG, RECORDS, point};
 
-// There is too little room for what was asked, and nothing changed.
+// There is too little room for what was asked, and the entries are as they were.
 #[derive(Clone, Copy, PartialEq, Eq, Debug)]
 pub struct NoRoom;
 

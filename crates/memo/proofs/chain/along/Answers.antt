@@ -13,10 +13,10 @@ key-requires c = let x = c.loop-depth.invariant.0 in let s = along_stands c.args
 pub word-depth-requires : goal.word-depth-requires
 word-depth-requires c = let x = c.loop-depth.invariant.0 in let s = along_stands c.args.words.now c.requires.0 x.0 x.1 c.args.k.now c.loop-depth.depth x.2 c.loop-depth-test.true in (omega arith, omega arith)
 
-pub returns-then-eq-clause-is : goal.returns-then-eq-clause-is
-returns-then-eq-clause-is c = λ m l h.
+pub returns-then-same_key-clause-is : goal.returns-then-same_key-clause-is
+returns-then-same_key-clause-is c = λ m l h.
     let y = c.loop-depth.invariant.1 m l h in
-    let e : key_of (deep c.loop-depth.depth c.args.words.now) ≡ c.args.k.now = sym c.key.ensures ∙ key_true _ _ (sym c.if-eq.ensures) in (
+    let e : key_of (deep c.loop-depth.depth c.args.words.now) ≡ c.args.k.now = sym c.key.ensures ∙ key_true _ _ (sym c.if-same_key.ensures) in (
       along_record c.args.words.now c.requires.0 m l c.args.k.now c.loop-depth.depth y c.loop-depth-test.true,
       along_some c.args.words.now c.requires.0 m l c.args.k.now c.loop-depth.depth y c.loop-depth-test.true e,
     )
@@ -30,7 +30,7 @@ loop-depth-smaller c =
 
 pub loop-depth-preserved : goal.loop-depth-preserved
 loop-depth-preserved c =
-    let other : key_of (deep c.loop-depth.depth c.args.words.now) ≡ c.args.k.now → ⊥ = λ q. both_ways _ (sym c.if-eq.ensures) (key_yes _ _ (c.key.ensures ∙ q)) in
+    let other : key_of (deep c.loop-depth.depth c.args.words.now) ≡ c.args.k.now → ⊥ = λ q. both_ways _ (sym c.if-same_key.ensures) (key_yes _ _ (c.key.ensures ∙ q)) in
     let x = c.loop-depth.invariant.0 in (
       (x.0, x.1, subst (Chained c.args.words.now x.0 x.1 c.args.k.now) (sym c.word-depth.ensures) (along_next c.args.words.now c.requires.0 x.0 x.1 c.args.k.now c.loop-depth.depth x.2 c.loop-depth-test.true other)),
       λ m l h.
