@@ -1,17 +1,10 @@
 -- Faults gathered in words, one after the other.
-use Rattle.std.proofs.Common.{◌≡◌, ℕ, zero, suc, ◌+◌, ◌*◌, ◌<◌, ◌≤◌, ◌≢◌, Bool, true, false, eqb, List, [], ◌∷◌, ◌++◌, length, get_or, take, set, sym, refl, ap, ◌∙◌, append_assoc, append-nil, arith}
-use Rattle.std.proofs.lemmas.List.{get_or-set_same, get_or-set_other, get_or-take, get_or_append_left, take-set-le, take-take, length-set, length-take-le}
-use Rattle.base.specs.Base.{pick}
-use Rattle.semantics.specs.Check.{fault}
+use Rattle.std.proofs.Common.{◌≡◌, ℕ, zero, suc, ◌+◌, ◌*◌, ◌<◌, ◌≤◌, ◌≢◌, List, [], ◌∷◌, ◌++◌, length, get_or, take, drop, set, sym, refl, ap, ◌∙◌, append_assoc, append-nil, arith}
+use Rattle.std.proofs.lemmas.List.{get_or-set_same, get_or-set_other, get_or-take, get_or-drop, get_or_append_left, take-set-le, take-take, length-set, length-take-le}
+use Rattle.semantics.specs.Check.{Fault, fault}
 use Rattle.semantics.specs.Answers.{fault_words}
-use Rattle.checker.specs.declared.said.Link.TheVariants.{Declared, Local, File}
-use Rattle.checker.specs.declared.said.Said.{Said as Told}
-use Rattle.checker.specs.declared.said.Said.TheVariants.{Fault as Blames, «Type» as Types, Link as Links_to}
-use Rattle.checker.specs.declared.said.Event.{Event}
-use Rattle.checker.specs.Rows.{event_by, event_at, events_at}
-use Rattle.checker.proofs.Events.{events_last}
 use Rattle.findings.specs.Said.{fault_of, fault_in, faults_read}
-use Rattle.findings.specs.Gathered.{three, three_at, gathered, four, fault_told, faults_told, Gathering}
+use Rattle.findings.specs.Gathered.{three, three_at, gathered, four, Gathering}
 
 -- words elsewhere stay
 pub four_other : (ws : List ℕ) (i s a b x j : ℕ) → (j < i) → get_or (four ws i s a b x) j 0 ≡ get_or ws j 0
@@ -66,78 +59,62 @@ gathered_same us vs q (suc m) h =
 pub four_long : (ws : List ℕ) (i s a b x : ℕ) → length (four ws i s a b x) ≡ length ws
 four_long ws i s a b x = length-set _ (i + 3) x ∙ length-set _ (i + 2) b ∙ length-set _ (i + 1) a ∙ length-set ws i s
 
--- something said that is no fault
-pub none_told : (a b : ℕ) (t : Told) → ((x : ℕ) → t ≡ Blames x → ⊥) → fault_told a b t ≡ []
-none_told a b (Blames x) h = absurd (h x refl)
-none_told a b (Types w) h = refl
-none_told a b (Links_to l) h = refl
+pub words_append : (s : ℕ) (xs ys : List Fault) → fault_words s (xs ++ ys) ≡ fault_words s xs ++ fault_words s ys
+words_append s [] ys = refl
+words_append s (x ∷ xs) ys = ap (λ r. (s + x.from) ∷ (s + x.to) ∷ x.sort ∷ r) (words_append s xs ys)
 
--- the faults of things said are those that are read
-told_at : (t a b x : ℕ) → fault_told a b (event_by t a b x).said ≡ fault_of t a b x
-told_at t a b x = go (eqb t 0) (eqb t 1) (eqb t 2) (eqb t 3)
-  where
-    go : (p q r s : Bool) → fault_told a b (pick p (Blames x) (pick q (Types (record { 0 = x })) (pick r (Links_to (Declared (record { 0 = x }))) (pick s (Links_to (Local x)) (Links_to File))))) ≡ pick p (fault a b x ∷ []) []
-    go true q r s = refl
-    go false true r s = refl
-    go false false true s = refl
-    go false false false true = refl
-    go false false false false = refl
+-- what is said in the part behind a place is what is said from there on
+pub fault_behind : (ws : List ℕ) (at1 i : ℕ) → fault_in (drop at1 ws) i ≡ fault_in ws (at1 + i)
+fault_behind ws at1 i =
+    let a : at1 + (i + 1) ≡ at1 + i + 1 = omega arith in
+    let b : at1 + (i + 2) ≡ at1 + i + 2 = omega arith in
+    let c : at1 + (i + 3) ≡ at1 + i + 3 = omega arith in
+    let w0 = get_or-drop at1 ws i 0 in
+    let w1 = get_or-drop at1 ws (i + 1) 0 ∙ ap (λ j. get_or ws j 0) a in
+    let w2 = get_or-drop at1 ws (i + 2) 0 ∙ ap (λ j. get_or ws j 0) b in
+    let w3 = get_or-drop at1 ws (i + 3) 0 ∙ ap (λ j. get_or ws j 0) c in
+    (λ k. fault_of (w0 k) (w1 k) (w2 k) (w3 k))
 
-told_append : (es fs : List Event) → faults_told (es ++ fs) ≡ faults_told es ++ faults_told fs
-told_append [] fs = refl
-told_append (e ∷ es) fs = ap (λ xs. fault_told e.span.from e.span.to e.said ++ xs) (told_append es fs) ∙ sym (append_assoc (fault_told e.span.from e.span.to e.said) (faults_told es) (faults_told fs))
-
-told_read : (ws : List ℕ) (i n : ℕ) → faults_told (events_at ws i n) ≡ faults_read ws i n
-told_read ws i zero = refl
-told_read ws i (suc n) =
-    let j = i + 4 * n in
-    let one : fault_told (event_at ws j).span.from (event_at ws j).span.to (event_at ws j).said ++ [] ≡ fault_in ws j = append-nil _ ∙ told_at (get_or ws j 0) (get_or ws (j + 1) 0) (get_or ws (j + 2) 0) (get_or ws (j + 3) 0) in
-    ap faults_told (events_last ws i n) ∙ told_append (events_at ws i n) (event_at ws j ∷ []) ∙ (λ k. told_read ws i n k ++ one k)
-
-many_at : (ws : List ℕ) (i n : ℕ) → length (events_at ws i n) ≡ n
-many_at ws i zero = refl
-many_at ws i (suc n) = ap suc (many_at ws (i + 4) n)
-
-module _ (ws : List ℕ) (at1 k s q n : ℕ) (apart : q + 4 * (n + k) ≤ at1) where
-  -- at the beginning all are left
-  pub all_left : (low : List ℕ) (es : List Event) → at1 + 4 * k ≤ length ws → low ≡ take at1 ws → es ≡ events_at ws at1 k → Gathering ws at1 k s q n low n es
-  all_left low es w e h =
-      let same : gathered low q n ≡ gathered ws q n = gathered_same low ws q n (λ j l. ap (λ z. get_or z j 0) e ∙ get_or-take at1 ws j 0 (omega arith)) in
-      let told : faults_told es ≡ faults_read ws at1 k = ap faults_told h ∙ told_read ws at1 k in
-      let many : length es ≡ k = ap length h ∙ many_at ws at1 k in
+module _ (ws : List ℕ) (at1 s q n : ℕ) where
+  -- at the beginning none is there yet
+  pub none_yet : (low : List ℕ) → q ≤ at1 → q + 4 * n ≤ at1 → at1 ≤ length ws → low ≡ take at1 ws → Gathering ws at1 s q n low n 0
+  none_yet low h l w e =
       record {
-        long = ap length e ∙ length-take-le at1 ws (omega arith);
-        front = ap (take q) e ∙ take-take q at1 ws (omega arith);
-        adds = λ i. same i ++ fault_words s (told i);
-        few = omega (arith, many);
+        long = ap length e ∙ length-take-le at1 ws w;
+        front = ap (take q) e ∙ take-take q at1 ws h;
+        adds = gathered_same low ws q n (λ j k. ap (λ z. get_or z j 0) e ∙ get_or-take at1 ws j 0 (omega arith)) ∙ sym (append-nil (gathered ws q n));
+        few = omega arith;
       }
 
-  module _ (vs : List ℕ) (m : ℕ) (es : List Event) (g : Gathering ws at1 k s q n vs m es) where
+  module _ (vs : List ℕ) (m i : ℕ) (g : Gathering ws at1 s q n vs m i) (row : List ℕ) (part : row ≡ drop at1 ws) where
+    read_more : (xs : List Fault) → fault_in row (4 * i) ≡ xs → fault_words s (faults_read ws at1 (i + 1)) ≡ fault_words s (faults_read ws at1 i) ++ fault_words s xs
+    read_more xs e =
+        let more : i + 1 ≡ suc i = omega arith in
+        ap (λ k. fault_words s (faults_read ws at1 k)) more ∙ words_append s (faults_read ws at1 i) (fault_in ws (at1 + 4 * i)) ∙ ap (λ ys. fault_words s (faults_read ws at1 i) ++ fault_words s ys) (sym (fault_behind ws at1 (4 * i)) ∙ ap (λ r. fault_in r (4 * i)) (sym part) ∙ e)
+
     -- something said that isn't a fault, and a fault
-    pub none_more : (e : Event) (fs : List Event) → es ≡ e ∷ fs → fault_told e.span.from e.span.to e.said ≡ [] → Gathering ws at1 k s q n vs m fs
-    none_more e fs h z =
-        let told : faults_told es ≡ faults_told fs = ap faults_told h ∙ ap (λ xs. xs ++ faults_told fs) z in
+    pub none_more : fault_in row (4 * i) ≡ [] → Gathering ws at1 s q n vs m (i + 1)
+    none_more e =
         record {
           long = g.long;
           front = g.front;
-          adds = ap (λ xs. gathered vs q m ++ fault_words s xs) (sym told) ∙ g.adds;
-          few = omega (arith, g.few, ap length h);
+          adds = g.adds ∙ ap (λ r. gathered ws q n ++ r) (sym (read_more [] e ∙ append-nil (fault_words s (faults_read ws at1 i))));
+          few = omega (arith, g.few);
         }
 
-    pub one_more : (e : Event) (fs : List Event) → es ≡ e ∷ fs → (a b x : ℕ) → fault_told e.span.from e.span.to e.said ≡ fault a b x ∷ [] → Gathering ws at1 k s q n (four vs (q + 4 * m) s a b x) (m + 1) fs
-    one_more e fs h a b x z =
+    pub one_more : (a b x : ℕ) → q + 4 * m + 4 ≤ at1 → fault_in row (4 * i) ≡ fault a b x ∷ [] → Gathering ws at1 s q n (four vs (q + 4 * m) s a b x) (m + 1) (i + 1)
+    one_more a b x h e =
         let us = four vs (q + 4 * m) s a b x in
         let more : m + 1 ≡ suc m = omega arith in
-        let told : faults_told es ≡ (fault a b x ∷ []) ++ faults_told fs = ap faults_told h ∙ ap (λ xs. xs ++ faults_told fs) z in
         let kept : gathered us q m ≡ gathered vs q m = gathered_same us vs q m (λ j l. four_other vs (q + 4 * m) s a b x j l) in
-        let put : three_at us (q + 4 * m) ≡ three s a b x = four_three vs (q + 4 * m) s a b x (omega (arith, g.long, g.few, ap length h)) in
+        let put : three_at us (q + 4 * m) ≡ three s a b x = four_three vs (q + 4 * m) s a b x (omega (arith, g.long)) in
         record {
           long = four_long vs (q + 4 * m) s a b x ∙ g.long;
           front = four_front vs (q + 4 * m) s a b x q (omega arith) ∙ g.front;
-          adds = ap (λ c. gathered us q c ++ fault_words s (faults_told fs)) more ∙ (λ i. (kept i ++ put i) ++ fault_words s (faults_told fs)) ∙ append_assoc (gathered vs q m) (three s a b x) (fault_words s (faults_told fs)) ∙ ap (λ xs. gathered vs q m ++ fault_words s xs) (sym told) ∙ g.adds;
-          few = omega (arith, g.few, ap length h);
+          adds = ap (λ c. gathered us q c) more ∙ (λ j. (kept ∙ g.adds) j ++ put j) ∙ append_assoc (gathered ws q n) (fault_words s (faults_read ws at1 i)) (three s a b x) ∙ ap (λ r. gathered ws q n ++ r) (sym (read_more (fault a b x ∷ []) e));
+          few = omega (arith, g.few);
         }
 
-    -- at the end, with what stands behind
-    pub all_in : (row : List ℕ) → es ≡ [] → gathered (vs ++ row) q m ≡ gathered ws q n ++ fault_words s (faults_read ws at1 k)
-    all_in row h = gathered_same (vs ++ row) vs q m (λ j l. get_or_append_left vs row 0 j (omega (arith, g.long, g.few))) ∙ sym (append-nil (gathered vs q m)) ∙ ap (λ fs. gathered vs q m ++ fault_words s (faults_told fs)) (sym h) ∙ g.adds
+  -- at the end, with what stands behind
+  pub all_in : (vs row : List ℕ) (m i k : ℕ) → Gathering ws at1 s q n vs m i → i ≡ k → q + 4 * (n + k) ≤ at1 → gathered (vs ++ row) q m ≡ gathered ws q n ++ fault_words s (faults_read ws at1 k)
+  all_in vs row m i k g z h = gathered_same (vs ++ row) vs q m (λ j l. get_or_append_left vs row 0 j (omega (arith, g.long, g.few))) ∙ g.adds ∙ ap (λ j. gathered ws q n ++ fault_words s (faults_read ws at1 j)) z

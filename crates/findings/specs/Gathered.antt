@@ -1,10 +1,6 @@
 -- Faults gathered from lines: four words each, from a place q on: where its line begins, from, behind, its number.
 use Rattle.std.specs.Prelude.{◌≡◌, ℕ, zero, suc, ◌+◌, ◌*◌, ◌≤◌, List, [], ◌∷◌, ◌++◌, length, take, slice_index, slice_set}
 use Rattle.semantics.specs.Answers.{fault_words}
-use Rattle.semantics.specs.Check.{Fault, fault}
-use Rattle.checker.specs.declared.said.Said.{Said as Told}
-use Rattle.checker.specs.declared.said.Said.TheVariants.{Fault as Blames, «Type» as Types, Link as Links_to}
-use Rattle.checker.specs.declared.said.Event.{Event}
 use Rattle.findings.specs.Said.{faults_read}
 
 -- the three numbers of the fault in four words: its place counted from the file's beginning
@@ -23,20 +19,10 @@ gathered vs q (suc n) = gathered vs q n ++ three_at vs (q + 4 * n)
 abbrev pub four : List ℕ → ℕ → ℕ → ℕ → ℕ → ℕ → List ℕ
 four ws i s a b x = slice_set (slice_set (slice_set (slice_set ws i s) (i + 1) a) (i + 2) b) (i + 3) x
 
--- the faults among things said
-abbrev pub fault_told : ℕ → ℕ → Told → List Fault
-fault_told a b (Blames x) = fault a b x ∷ []
-fault_told a b (Types w) = []
-fault_told a b (Links_to l) = []
-
-abbrev pub faults_told : List Event → List Fault
-faults_told [] = []
-faults_told (e ∷ es) = fault_told e.span.from e.span.to e.said ++ faults_told es
-
--- faults of a line that begins at s, put behind n that were gathered, in the part before the k things said of it: there are m, and es
--- are left. ws is the row before, vs that part now
-pub record Gathering (ws : List ℕ) (at1 k s q n : ℕ) (vs : List ℕ) (m : ℕ) (es : List Event) : Type 0 where
+-- faults of a line that begins at s, put behind n that were gathered, in the part before what was said of it: there are m after i
+-- things. ws is the row before, vs that part now
+pub record Gathering (ws : List ℕ) (at1 s q n : ℕ) (vs : List ℕ) (m i : ℕ) : Type 0 where
   pub long : length vs ≡ at1
   pub front : take q vs ≡ take q ws
-  pub adds : gathered vs q m ++ fault_words s (faults_told es) ≡ gathered ws q n ++ fault_words s (faults_read ws at1 k)
-  pub few : m + length es ≤ n + k
+  pub adds : gathered vs q m ≡ gathered ws q n ++ fault_words s (faults_read ws at1 i)
+  pub few : m ≤ n + i

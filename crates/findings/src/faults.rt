@@ -4,7 +4,7 @@ ghost use Rattle.semantics.specs.Answers.{fault_words};
 ghost use Rattle.findings.specs.Said.{fault_in, faults_read, FaultSays};
 ghost use Rattle.findings.specs.Gathered.{gathered, four};
 
-use checker::said::{Event, Events, Said};
+use checker::said::{Event, Said};
 use diagnostics::Findings;
 use parser::code::Span;
 
@@ -49,11 +49,11 @@ pub fn gather(words: &mut [u32], f: Findings, start: u32, q: usize, n: usize) ->
 {
     let (out, row) = words.split_at_mut(f.at);
     let mut m = n;
-    for Event { span, said } in Events(&row[..4 * f.count]) {
-        let Said::Fault(number) = said else {
+    for i in 0..f.count {
+        let Some(x) = fault_at(row, 4 * i) else {
             continue;
         };
-        put_fault(out, q + 4 * m, start, FaultAt { span, number });
+        put_fault(out, q + 4 * m, start, x);
         m += 1;
     }
     m

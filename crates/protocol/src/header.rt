@@ -73,8 +73,8 @@ fn four(bytes: &[u8]) -> Option<(usize, usize, usize, usize)>
     ensures { result ≡ four_of bytes.now }
 {
     let (first, rest) = cut(bytes);
-    let (second, rest) = cut(rest);
     let first = number(first)?;
+    let (second, rest) = cut(rest);
     let second = number(second)?;
     let (third, fourth) = two(rest)?;
     Some((first, second, third, fourth))
