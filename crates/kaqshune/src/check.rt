@@ -2,6 +2,7 @@
 ghost use Rattle.std.specs.Prelude.{◌≡◌, ℕ, ◌≤◌, IfOk};
 ghost use Rattle.kaqshune.specs.Checked.{Checked};
 
+use crate::lines::Lines;
 use anyhow::anyhow;
 use parser::code::Span;
 use report::{show_line, show_mark};
@@ -9,9 +10,6 @@ use std::alloc::{AllocError, Global};
 use std::io::Write;
 use std::{fmt, fs};
 use syntax::read::{Refusal, read_line, room};
-
-// The byte that ends a line.
-const NEWLINE: u32 = 10;
 
 // So many things of a kind, as they are printed.
 #[derive(Clone, Copy)]
@@ -39,11 +37,14 @@ impl Fault<'_> {
     fn print<W: Write>(&self, heap: Global, out: &mut W) -> anyhow::Result<()> {
         let (path, number) = (self.path, self.number);
         let column = u64::from(self.place.from) + 1;
-        writeln!(out, "{path}:{number}:{column}: fault 1: not understood")?;
-        let mut shown = Vec::new(heap);
+        let head = format!(in heap; "{path}:{number}:{column}: fault 1: not understood\n")?;
+        out.write_all(head.as_bytes())?;
+        let (from, to) = (self.place.from as usize, self.place.to as usize);
+        let len = self.line.len() + to.max(from + 1) + 2;
+        let mut shown = Vec::with_capacity(heap, len)?;
         show_line(&mut shown, self.line)?;
         shown.push(b'\n')?;
-        show_mark(&mut shown, self.place.from as usize, self.place.to as usize)?;
+        show_mark(&mut shown, from, to)?;
         shown.push(b'\n')?;
         out.write_all(&shown[..])?;
         Ok(())
@@ -99,9 +100,7 @@ impl Totals {
         text: &[u32],
         out: &mut W,
     ) -> anyhow::Result<()> {
-        let lines = text.split_inclusive(|c| *c == NEWLINE);
-        for (number, line) in (1..u64::MAX).zip(lines) {
-            let line = line.strip_suffix(&[NEWLINE]).unwrap_or(line);
+        for (number, line) in (1..u64::MAX).zip(Lines::new(text)) {
             self.lines = self.lines.saturating_add(1);
             if let Some(place) = wrong_place(&mut self.row, line)? {
                 self.faults = self.faults.saturating_add(1);
@@ -118,11 +117,12 @@ impl Totals {
     }
 
     // How many files, lines and faults there were.
-    pub fn print<W: Write>(&self, out: &mut W) -> anyhow::Result<()> {
+    pub fn print<W: Write>(&self, rt: &HostRuntime, out: &mut W) -> anyhow::Result<()> {
         let files = Counted(self.files, "file");
         let lines = Counted(self.lines, "line");
         let faults = Counted(self.faults, "fault");
-        writeln!(out, "{files}, {lines}, {faults}")?;
+        let said = format!(in rt.alloc(); "{files}, {lines}, {faults}\n")?;
+        out.write_all(said.as_bytes())?;
         Ok(())
     }
 

@@ -3,6 +3,7 @@
 #![tactic(auto)]
 
 mod check;
+mod lines;
 mod options;
 
 use check::Totals;
@@ -28,7 +29,7 @@ fn check_files(rt: &HostRuntime, files: &[String], faults_count: bool) -> anyhow
     for path in files {
         totals.check_file(rt, path.as_str(), &mut out)?;
     }
-    totals.print(&mut out)?;
+    totals.print(rt, &mut out)?;
     out.flush()?;
     Ok(if totals.is_fine(faults_count) {
         ExitCode::SUCCESS
